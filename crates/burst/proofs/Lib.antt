@@ -1,0 +1,4 @@
+pub mod Facts
+pub mod Masks
+pub mod Walks
+pub mod Tiles

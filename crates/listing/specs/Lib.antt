@@ -1,0 +1,2 @@
+-- The bytes of lines of text.
+pub mod Lines

@@ -1,0 +1,13 @@
+use Prim.Native.Nat.{ℕ, _+_, _<_, _%_}
+use mathlib.Core.Path.{_≡_}
+use mathlib.Core.Bool.{cond}
+use lib.ListN.{length, getD}
+use Rattle.burst.specs.Beats.{covers}
+use Rattle.slave.specs.Lanes.{shown-of}
+use Rattle.ram.specs.Memory.{kind-at}
+use Rattle.ram.proofs.memory.load_word.Given as given
+
+abbrev pub Inv-loop-i : given.InvT-loop-i
+Inv-loop-i l =
+    (length (l .lanes) ≡ 8)
+    × ((k : ℕ) → k < l .i → getD (l .lanes) k 0 ≡ cond (covers (l .low) (l .high) (l .base + k)) (shown-of (kind-at (l .mem) (l .base + k)) (getD (l .mem) (l .base + k) 0 % 256)) 0)

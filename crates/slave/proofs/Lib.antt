@@ -1,0 +1,4 @@
+pub mod Words
+pub mod Worst
+pub mod Calls
+pub mod Soundness
