@@ -1,9 +1,22 @@
-// One audio frame into memory over the bus and back, with a line for each burst.
-use burst::RawBurst;
+// One audio frame over the bus: two masters write and two read, over a fabric over a splitter over RAM.
+// Every act has a line that says how it ended.
+use fabric::Act;
+use fabric::Answer;
+use fabric::Fabric;
+use fabric::Outcome;
 use ram::Ram;
 use ram::RamSlave;
+use report::Told;
+use report::ToldFrom;
+use slave::Channel;
+use splitter::Splitter;
+use splitter::SplitterSlave;
 use std::io;
 use std::io::Read;
+use std::io::Write;
+use workload::Step;
+use workload::acts_of;
+use workload::frame_request;
 
 // The bytes of one frame, which is 20 ms of sound.
 const FRAME_BYTES: usize = 640;
@@ -13,15 +26,18 @@ const INPUT_BYTES: u64 = 641;
 
 const MEMORY_BYTES: usize = 4096;
 
-const WIDTH: u8 = 4;
+const WIDTH: u8 = 8;
 
-const MOST: u16 = 64;
+const MOST: u16 = 8;
 
 // Where the frame goes: an odd address.
 const START: u32 = 0x101;
 
-// The bytes of one burst, a beat for each.
-const ROW: usize = 64;
+// The beats of one burst of the frame.
+const BEATS: u16 = 16;
+
+// No line is longer.
+const LINE: usize = 64;
 
 fn main(rt: LibcRuntime) -> io::Result<()> {
     let heap = rt.alloc();
@@ -33,39 +49,130 @@ fn main(rt: LibcRuntime) -> io::Result<()> {
     if frame.len() > FRAME_BYTES {
         return println!(rt, "no frame: the input is longer than {FRAME_BYTES} bytes");
     }
-    let mut slave = Ram::new(vec![in heap; 0u8; MEMORY_BYTES]?, WIDTH, MOST);
-    let mut address = START;
-    for row in frame.chunks(ROW) {
-        let answer = transfer::write_row(&mut slave, address, row);
-        let line = listing::written_line(heap, address, row.len(), answer)?;
-        println!(rt, "{line}")?;
-        address = address.saturating_add(64);
+    frame.resize(FRAME_BYTES, 0)?;
+    let write = Channel::Write;
+    let read = Channel::Read;
+    let steps = [
+        // master 1 waits with the lowest rank, while master 0 brings the frame burst by burst
+        Step::Act(frame_request(write, 1, 7, 0, 0x904, 1)),
+        Step::Act(frame_request(write, 0, 0, 4, START, BEATS)),
+        Step::Act(Act::Grant(write)),
+        Step::Puts {
+            master: 0,
+            start: START,
+            block: 0x20,
+            beats: BEATS,
+        },
+        Step::Act(frame_request(write, 0, 1, 4, 0x180, BEATS)),
+        Step::Act(Act::Grant(write)),
+        Step::Puts {
+            master: 0,
+            start: START,
+            block: 0x30,
+            beats: BEATS,
+        },
+        Step::Act(frame_request(write, 0, 2, 4, 0x200, BEATS)),
+        Step::Act(Act::Grant(write)),
+        Step::Puts {
+            master: 0,
+            start: START,
+            block: 0x40,
+            beats: BEATS,
+        },
+        Step::Act(frame_request(write, 0, 3, 4, 0x280, BEATS)),
+        Step::Act(Act::Grant(write)),
+        Step::Puts {
+            master: 0,
+            start: START,
+            block: 0x50,
+            beats: BEATS,
+        },
+        Step::Act(frame_request(write, 0, 4, 4, 0x300, BEATS)),
+        // its age has made master 1's rank as high as a newcomer's: it is granted
+        Step::Act(Act::Grant(write)),
+        // another master's put, a wrong last mark, a strobe outside the beat, and the beat itself
+        Step::Act(Act::Put {
+            master: 0,
+            word: 0,
+            strobe: 0,
+            last: true,
+        }),
+        Step::Act(Act::Put {
+            master: 1,
+            word: 0,
+            strobe: 0,
+            last: false,
+        }),
+        Step::Act(Act::Put {
+            master: 1,
+            word: 0,
+            strobe: 0xff,
+            last: true,
+        }),
+        Step::Act(Act::Put {
+            master: 1,
+            word: 0x4444_3333_0000_0000,
+            strobe: 0x30,
+            last: true,
+        }),
+        Step::Act(Act::Grant(write)),
+        Step::Puts {
+            master: 0,
+            start: START,
+            block: 0x60,
+            beats: BEATS,
+        },
+        Step::Act(frame_request(write, 0, 5, 4, 0x380, 1)),
+        Step::Act(Act::Grant(write)),
+        Step::Puts {
+            master: 0,
+            start: START,
+            block: 0x70,
+            beats: 1,
+        },
+        // two masters read the frame; the higher QoS goes first
+        Step::Act(frame_request(read, 2, 1, 1, START, BEATS)),
+        Step::Act(frame_request(read, 3, 2, 9, 0x180, BEATS)),
+        Step::Act(Act::Grant(read)),
+        Step::Takes(BEATS),
+        Step::Act(Act::Grant(read)),
+        Step::Takes(BEATS),
+        Step::Act(frame_request(read, 2, 1, 1, 0x200, BEATS)),
+        Step::Act(frame_request(read, 2, 1, 1, 0x280, BEATS)),
+        Step::Act(frame_request(read, 2, 1, 1, 0x300, BEATS)),
+        Step::Act(frame_request(read, 2, 1, 1, 0x380, 1)),
+        Step::Act(Act::Grant(read)),
+        Step::Takes(BEATS),
+        Step::Act(Act::Grant(read)),
+        Step::Takes(BEATS),
+        Step::Act(Act::Grant(read)),
+        Step::Takes(BEATS),
+        Step::Act(Act::Grant(read)),
+        Step::Takes(1),
+        // acts that are refused: no open read, nothing waits, no such master, over the page's end
+        Step::Act(Act::Take),
+        Step::Act(Act::Grant(read)),
+        Step::Act(frame_request(write, 4, 0, 0, 0, 1)),
+        Step::Act(frame_request(write, 0, 0, 0, 0xff8, 2)),
+    ];
+    let acts = acts_of(heap, &frame, &steps)?;
+    let mut answers: Vec<Outcome> = vec![in heap; Ok(Answer::Accepted); acts.len()]?;
+    let mut slave = Splitter::new(
+        Ram::new(vec![in heap; 0u8; MEMORY_BYTES]?, WIDTH, MOST),
+        MOST,
+    );
+    let mut fabric = Fabric::new(heap)?;
+    if let Err(fault) = history::run(&mut fabric, &mut slave, &acts, &mut answers) {
+        let number = fault.number();
+        return println!(rt, "no run: refused {number}");
     }
-    // one beat of four bytes, of which the strobe picks the middle two
-    let patch = RawBurst {
-        kind: 1,
-        start: 0x104,
-        size: 2,
-        count: 1,
-    };
-    let answer = transfer::write_beat(&mut slave, patch, 0x0000_0000_ddcc_bbaa, 0x06);
-    let line = listing::written_line(heap, patch.start, 1, answer)?;
-    println!(rt, "{line}")?;
-    let mut address = START;
-    for row in frame.chunks_mut(ROW) {
-        let answer = transfer::read_row(&mut slave, address, row);
-        let line = listing::read_line(heap, address, row, answer)?;
-        println!(rt, "{line}")?;
-        address = address.saturating_add(64);
+    let mut number = 0u32;
+    for outcome in &answers {
+        number = number.saturating_add(1);
+        let mut line = [0u8; LINE];
+        if let Ok(length) = report::write_line(&mut line, number, Told::from(*outcome)) {
+            rt.stdout().write_all(&line[0..length.min(LINE)])?;
+        }
     }
-    // two beats that would leave the page
-    let long = RawBurst {
-        kind: 1,
-        start: 0xffc,
-        size: 2,
-        count: 2,
-    };
-    let answer = transfer::write_beat(&mut slave, long, 0, 0);
-    let line = listing::written_line(heap, long.start, 2, answer)?;
-    println!(rt, "{line}")
+    Ok(())
 }

@@ -1,0 +1,22 @@
+-- From lists of requests to the whole law.
+pub mod Filing
+pub mod Waits
+pub mod Bound
+pub mod Beats
+pub mod Shared
+pub mod Latest
+pub mod Takes
+pub mod Forgets
+pub mod Responses
+pub mod Whole
+pub mod Quiet
+pub mod Indexed
+pub mod Asking
+pub mod Steps
+pub mod Granting
+pub mod Moving
+pub mod Putting
+pub mod Taking
+pub mod Acting
+pub mod Running
+pub mod Worked

@@ -1,2 +1,0 @@
--- The bytes of lines of text.
-pub mod Lines

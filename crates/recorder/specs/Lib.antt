@@ -1,0 +1,2 @@
+-- What a recording slave keeps.
+pub mod Record

@@ -1,2 +1,0 @@
--- From one byte in its lane to rows of bytes.
-pub mod Rows
