@@ -1,11 +1,16 @@
-// One audio frame over the bus: two masters write and two read, over a fabric over a splitter over RAM.
+// One audio frame over the bus: two masters write and two read, over a fabric over a register slice,
+// a converter and a splitter over RAM.
 // Every act has a line that says how it ended.
+use converter::Converter;
+use converter::ConverterSlave;
 use fabric::Act;
 use fabric::Answer;
 use fabric::Fabric;
 use fabric::Outcome;
 use ram::Ram;
 use ram::RamSlave;
+use register::RegisterSlave;
+use register::RegisterSlice;
 use report::Told;
 use report::ToldFrom;
 use slave::Channel;
@@ -26,7 +31,10 @@ const INPUT_BYTES: u64 = 641;
 
 const MEMORY_BYTES: usize = 4096;
 
-const WIDTH: u8 = 8;
+// The width of the memory, and that of the bus that the fabric asks for.
+const WIDTH: u8 = 4;
+
+const BUS: u8 = 8;
 
 const MOST: u16 = 8;
 

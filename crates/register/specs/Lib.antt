@@ -1,0 +1,2 @@
+-- What a register slice shows.
+pub mod Holds
