@@ -165,10 +165,8 @@ fn main(rt: LibcRuntime) -> io::Result<()> {
     ];
     let acts = acts_of(heap, &frame, &steps)?;
     let mut answers: Vec<Outcome> = vec![in heap; Ok(Answer::Accepted); acts.len()]?;
-    let mut slave = Splitter::new(
-        Ram::new(vec![in heap; 0u8; MEMORY_BYTES]?, WIDTH, MOST),
-        MOST,
-    );
+    let ram = Ram::new(vec![in heap; 0u8; MEMORY_BYTES]?, WIDTH, MOST);
+    let mut slave = RegisterSlice::new(Converter::new(Splitter::new(ram, MOST), BUS));
     let mut fabric = Fabric::new(heap)?;
     if let Err(fault) = history::run(&mut fabric, &mut slave, &acts, &mut answers) {
         let number = fault.number();
