@@ -7,8 +7,6 @@ use Rattle.fabric.specs.declared.types.FabricFault.{FabricFault}
 use Rattle.fabric.specs.Channels.{Channels}
 use Rattle.history.specs.History.{History}
 use Rattle.history.specs.Bytes.{Board}
-use Rattle.history.specs.Owed.{owed}
-use Rattle.history.specs.Law.{Holds}
 use Rattle.history.specs.Tracks.{Tracks, Extends}
 use Rattle.history.proofs.Whole.{runs_hold}
 use Rattle.report.specs.declared.told.Told.{Told}

@@ -1,12 +1,12 @@
 -- The pile over memory of 8,192 bytes fits below a fabric.
-use Rattle.std.proofs.Common.{◌≡◌, ℕ, Bool, true, cond, eqb, List, length, sym, refl, ap, ◌∙◌}
+use Rattle.std.proofs.Common.{◌≡◌, ℕ, true, eqb, List, length, ap}
 use Rattle.std.proofs.lemmas.Bool.{cond-true}
 use Rattle.slave.specs.declared.answer.Response.TheVariants.{Okay}
-use Rattle.slave.specs.Meaning.{Meaning, idle, dead}
+use Rattle.slave.specs.Meaning.{idle, dead}
 use Rattle.ram.specs.Making.{make_refusal}
-use Rattle.ram.specs.Shows.{shows, ram_made}
+use Rattle.ram.specs.Shows.{shows}
 use Rattle.fabric.specs.Acts.{fits_below}
-use Rattle.history.specs.Bytes.{Board, board}
+use Rattle.history.specs.Bytes.{board}
 use Rattle.bench.specs.Piles.{stacked, pile_made, memory_board}
 
 -- the pile over such memory is the pile over live memory

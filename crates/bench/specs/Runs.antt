@@ -1,5 +1,5 @@
 -- The whole report of a file, and what the bench answers and leaves.
-use Rattle.std.specs.Prelude.{◌≡◌, ℕ, ◌*◌, Bool, true, false, cond, ◌&&◌, List, [], ◌∷◌, ◌++◌, length, drop, Ok, Err, Result, ◌==◌, nat_le}
+use Rattle.std.specs.Prelude.{ℕ, ◌*◌, Bool, cond, ◌&&◌, List, ◌++◌, length, drop, Ok, Err, Result, ◌==◌, nat_le}
 use Rattle.history.specs.History.{History}
 use Rattle.history.specs.Bytes.{Board}
 use Rattle.report.specs.Lines.{line}

@@ -1,4 +1,6 @@
 // The bench: runs a script over the pile and writes its report.
+#![tactic(auto)]
+
 mod example;
 mod fault;
 mod pile;

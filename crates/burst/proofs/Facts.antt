@@ -1,14 +1,14 @@
 -- What the rules say of a lawful burst, and blocks of bytes.
-use Rattle.std.proofs.Common.{◌≡◌, ℕ, ◌+◌, ◌-◌, ◌*◌, ◌/◌, ◌%◌, ◌^◌, ◌<◌, ◌≤◌, Bool, true, false, cond, eqb, ltb, leb, ◌⊎◌, Some, None, Option, sym, refl, ap, ◌∙◌, subst, inl, inr, ⊎_elim, le_refl, mul_assoc, add-mul, add-one, arith, pow_mono}
+use Rattle.std.proofs.Common.{◌≡◌, ℕ, ◌+◌, ◌-◌, ◌*◌, ◌/◌, ◌%◌, ◌^◌, ◌<◌, ◌≤◌, Bool, true, false, cond, ◌⊎◌, Some, None, Option, sym, refl, ap, ◌∙◌, subst, inl, inr, ⊎_elim, mul_assoc, add-mul, arith, pow_mono}
 use lib.Pow.{pow-lt}
 use Rattle.std.proofs.lemmas.Nat.{mul-le, shr_below, pow-add, div-add-mod', mod_below, pow_pos, div_below}
-use Rattle.std.proofs.lemmas.Bool.{eqb-true, cases_lt}
+use Rattle.std.proofs.lemmas.Bool.{cases_lt}
 use Rattle.std.proofs.lemmas.Bool.Decides.{nat_tests}
 use Rattle.burst.specs.declared.raw.Width.{Width}
 use Rattle.burst.specs.declared.raw.Width.TheVariants.{One, Two, Four, Eight}
 use Rattle.burst.specs.declared.raw.RawBurst.{RawBurst}
 use Rattle.burst.specs.Beats.{first_refusal, address_of, last_of, last_from}
-use Rattle.burst.specs.Rules.{width_bytes, refusal, wrap_count, bad_count, bad_start, bad_page}
+use Rattle.burst.specs.Rules.{width_bytes, refusal, wrap_count}
 
 -- one beat more of N bytes, still within n beats
 pub more : (j n N : ℕ) → j < n → j * N + N ≤ n * N

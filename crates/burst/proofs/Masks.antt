@@ -1,8 +1,8 @@
 -- Bits of masks: folds over lanes, and the lanes that a beat uses.
-use Rattle.std.proofs.Common.{◌≡◌, ℕ, zero, suc, ◌+◌, ◌-◌, ◌*◌, ◌/◌, ◌%◌, ◌^◌, ◌<◌, ◌≤◌, Bool, true, false, cond, not, ◌&&◌, ◌||◌, eqb, ltb, leb, ◌⊎◌, sym, refl, ap, ◌∙◌, subst, inl, inr, ⊎_elim, add-one, arith, pow_mono}
+use Rattle.std.proofs.Common.{◌≡◌, ℕ, zero, suc, ◌+◌, ◌-◌, ◌*◌, ◌/◌, ◌%◌, ◌^◌, ◌<◌, ◌≤◌, Bool, true, false, cond, ◌&&◌, ◌||◌, eqb, leb, sym, refl, ap, ◌∙◌, subst, ⊎_elim, add-one, arith, pow_mono}
 use native.Mathlib.Nat.{div-eq_of_lt}
-use Rattle.std.proofs.lemmas.Nat.{pow-add, pow_pos, mod_below, mod-mul-add, div-add-mod'}
-use Rattle.std.proofs.lemmas.Bool.{or_parts, and_parts, cases_lt, cases_eq, cases_Bool, cond-true, cond-false, cond_both, leb-true, eqb-true, true≢false}
+use Rattle.std.proofs.lemmas.Nat.{pow-add, mod_below, mod-mul-add, div-add-mod'}
+use Rattle.std.proofs.lemmas.Bool.{or_parts, and_parts, cases_lt, cases_eq, cases_Bool, leb-true, eqb-true, true≢false}
 use Rattle.std.proofs.lemmas.Bool.Decides.{nat_tests}
 use Rattle.burst.specs.Beats.{bit, any_below, mask_below, lane_used, lane_mask, covers, lane_address}
 use Rattle.burst.specs.Laws.{LaneBits}

@@ -1,13 +1,13 @@
 -- What the beats of a lawful burst cover: the laws of specs/Laws.
-use Rattle.std.proofs.Common.{◌≡◌, ℕ, zero, suc, ◌+◌, ◌-◌, ◌*◌, ◌/◌, ◌%◌, ◌^◌, ◌<◌, ◌≤◌, Bool, true, false, cond, ◌&&◌, eqb, ltb, leb, sym, refl, ap, ◌∙◌, subst, ⊎_elim, mul_assoc, add-mul, mul-div_cancel, arith}
+use Rattle.std.proofs.Common.{◌≡◌, ℕ, zero, suc, ◌+◌, ◌-◌, ◌*◌, ◌/◌, ◌%◌, ◌^◌, ◌<◌, ◌≤◌, true, false, cond, eqb, ltb, leb, sym, refl, ap, ◌∙◌, subst, ⊎_elim, mul_assoc, add-mul, mul-div_cancel, arith}
 use Rattle.std.proofs.lemmas.Nat.{div-add-mod', mod_below, pow_pos, div-mul-add, div_below, le-div}
 use Rattle.std.proofs.lemmas.Bool.{eq-eqb, ne_eqb, cond-true, cond-false, cases_lt, cases_eq, and_parts, leb-true}
 use Rattle.std.proofs.lemmas.Bool.Decides.{nat_tests}
 use Rattle.burst.specs.declared.raw.RawBurst.{RawBurst}
-use Rattle.burst.specs.Beats.{first_refusal, address_of, last_of, last_from, incr_address, wrap_address, container, turn_of, covers, span_of}
+use Rattle.burst.specs.Beats.{first_refusal, address_of, last_of, incr_address, wrap_address, container, turn_of, covers, span_of}
 use Rattle.burst.specs.Laws.{covered, Once, BeatsLie}
 use Rattle.burst.proofs.Facts.{more, Facts, facts, round_power}
-use Rattle.burst.proofs.Walks.{incr_aligned, low_aligned, before_below, start_is, wrap_first, wrap_second, low_page}
+use Rattle.burst.proofs.Walks.{incr_aligned, before_below, start_is, wrap_first, wrap_second, low_page}
 
 -- a byte between two bounds
 between : (f l a : ℕ) → covers f l a ≡ true → (f ≤ a) × (a ≤ l)

@@ -1,10 +1,8 @@
 -- Where the beats of INCR and WRAP bursts lie, and that they keep to the page.
-use Rattle.std.proofs.Common.{◌≡◌, ℕ, zero, suc, ◌+◌, ◌-◌, ◌*◌, ◌/◌, ◌%◌, ◌^◌, ◌<◌, ◌≤◌, Bool, true, false, cond, not, ◌&&◌, ◌||◌, eqb, ltb, leb, ◌⊎◌, sym, refl, ap, ◌∙◌, subst, inl, inr, ⊎_elim, add-zero, mod-eq_of_lt, mul_assoc, mul_comm, add-mul, zero-add, mul-div_cancel, arith}
+use Rattle.std.proofs.Common.{◌≡◌, ℕ, ◌+◌, ◌-◌, ◌*◌, ◌/◌, ◌%◌, ◌^◌, ◌<◌, ◌≤◌, cond, eqb, sym, ap, ◌∙◌, ⊎_elim, mod-eq_of_lt, mul_assoc, mul_comm, add-mul, mul-div_cancel, arith}
 use native.Mathlib.Nat.{add-mod_left, div-div-eq-div-mul, mul-mod_left}
-use Rattle.std.proofs.lemmas.Nat.{div-add-mod', mod_below, pow_pos, mul-le}
-use Rattle.std.proofs.lemmas.Bool.{eqb-true, eqb-false, eq-eqb, ne_eqb, cond-true, cond-false, cond_both, cases_Bool, cases_lt, cases_eq, lt-ltb, le-ltb, ltb-true, ltb-false}
-use Rattle.burst.specs.declared.raw.RawBurst.{RawBurst}
-use Rattle.burst.specs.Rules.{refusal, wrap_count}
+use Rattle.std.proofs.lemmas.Nat.{div-add-mod', mod_below, mul-le}
+use Rattle.std.proofs.lemmas.Bool.{eqb-true, eqb-false, eq-eqb, ne_eqb, cond-false, cond_both, cases_eq}
 use Rattle.burst.specs.Beats.{incr_address, wrap_address, turn_of}
 use Rattle.burst.proofs.Facts.{more, block_in_block}
 

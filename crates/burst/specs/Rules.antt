@@ -1,5 +1,5 @@
 -- Which bursts are lawful, and the number of each refusal.
-use Rattle.std.specs.Prelude.{ℕ, ◌+◌, ◌-◌, ◌*◌, ◌/◌, ◌%◌, ◌^◌, Bool, true, false, cond, not, ◌&&◌, ◌||◌, ◌==◌, nat_lt}
+use Rattle.std.specs.Prelude.{ℕ, ◌+◌, ◌*◌, ◌%◌, ◌^◌, Bool, cond, not, ◌&&◌, ◌||◌, ◌==◌, nat_lt}
 use Rattle.burst.specs.declared.raw.BurstKind.{BurstKind}
 use Rattle.burst.specs.declared.raw.BurstKind.TheVariants.{Fixed, Incr, Wrap}
 use Rattle.burst.specs.declared.raw.Width.{Width}

@@ -1,4 +1,6 @@
 // Bursts: what a master asks for, which of them are lawful, and which bytes their beats cover.
+#![tactic(auto)]
+
 mod beats;
 mod checked;
 mod edges;

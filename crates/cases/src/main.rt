@@ -1,4 +1,6 @@
 // Runs the bench on every case of data/ and says how many agree, byte for byte, with the report beside them.
+#![tactic(auto)]
+
 ghost use Rattle.bench.specs.Runs.{accepted, bench_after, report_of};
 ghost use Rattle.std.specs.Prelude.{◌≡◌, true, false, length, vec_len, Decides};
 

@@ -1,4 +1,6 @@
 // The converter: a full slave of a width of its own over a slave of any width.
+#![tactic(auto)]
+
 mod below;
 mod calls;
 mod cut;

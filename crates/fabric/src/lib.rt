@@ -1,4 +1,6 @@
 // The fabric: masters 0 to 3 over one slave, by requests, grants, puts and takes.
+#![tactic(auto)]
+
 mod fabric;
 mod picking;
 mod queue;

@@ -1,6 +1,8 @@
 // One audio frame over the bus: two masters write and two read, over a fabric over a register slice,
 // a converter and a splitter over RAM.
 // Every act has a line that says how it ended.
+#![tactic(auto)]
+
 use converter::Converter;
 use fabric::{Act, Answer, Fabric, Outcome};
 use ram::Ram;

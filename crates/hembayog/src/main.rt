@@ -1,4 +1,6 @@
 // The bench: a script on standard input, its report on standard output.
+#![tactic(auto)]
+
 use fabric::Fabric;
 use std::io;
 use std::io::{Read, Write};

@@ -3,7 +3,7 @@ use Rattle.std.proofs.Common.{◌≡◌, ℕ, ◌+◌, ◌<◌, ◌≤◌, Bool,
 use mathlib.Core.List.Memᴰ
 use mathlib.Core.List.{Memᴰ}
 use Rattle.std.proofs.lemmas.List.Elements.{filter-append}
-use Rattle.std.proofs.lemmas.Bool.{lt-ltb, le-ltb, eq-eqb, ne_eqb, eqb-false, cases_Bool, cases_lt, cases_eq, and_parts, not_from_false, not_from_true, not_true}
+use Rattle.std.proofs.lemmas.Bool.{lt-ltb, le-ltb, eq-eqb, ne_eqb, eqb-false, cases_Bool, cases_lt, cases_eq, and_parts, not_from_false, not_from_true, not-true}
 use Rattle.std.proofs.lemmas.Bool.Decides.{nat_tests}
 use Rattle.slave.specs.declared.answer.Channel.{Channel}
 use Rattle.slave.specs.declared.answer.Channel.TheVariants.{Write, Read}
@@ -203,7 +203,7 @@ bounded_leaves ch x h p g a o b =
         let lt = ahead_lt (without p ws) n in
         let f = b.few in
         let fw = fewer in
-        let ne : p.at ≡ q.at → ⊥ = eqb-false p.at q.at (not_true (eqb p.at q.at) k) in
+        let ne : p.at ≡ q.at → ⊥ = eqb-false p.at q.at (not-true (eqb p.at q.at) k) in
         record {
           late = λ _. omega arith;
           old = λ u. old_case q m ne i le (omega arith) (cases_lt (age ch q.at h) 15) u;

@@ -25,7 +25,7 @@ use Rattle.slave.proofs.Calls.{give_stray, give_taken, is_at_self}
 use Rattle.fabric.specs.declared.types.FabricFault.TheVariants.{LastMark, NotOpen, OtherMaster, Place, Slave}
 use Rattle.fabric.specs.Rows.{moved}
 use Rattle.fabric.specs.Acts.{passed, where_passed, carried, put_test, put_given, put_answer, put_after, put_slave}
-use Rattle.history.specs.History.{Event, History, same, Going, current, burst_of, opened}
+use Rattle.history.specs.History.{Event, History, same, Going, burst_of, opened}
 use Rattle.history.specs.Bytes.{Board, strobes, strobes_at, stored, response_written, response_at, worst}
 use Rattle.history.specs.Owed.{owed, owed_put_at, put_of, is_last}
 use Rattle.history.proofs.Beats.{opened_current}

@@ -14,7 +14,7 @@ use Rattle.fabric.specs.declared.row.Row.{Row}
 use Rattle.fabric.specs.declared.row.Open.{Open}
 use Rattle.fabric.specs.Channels.{Queue, with_queue}
 use Rattle.history.specs.Tracks.{row_of, open_of, stand_of, worst_kept, queue_after, channels_after, slave_after}
-use Rattle.history.specs.History.{Event, History, accepted, same, asked, granting, moves, moving, Filed, age, waiting, Going, current, opened}
+use Rattle.history.specs.History.{Event, History, accepted, same, asked, granting, moves, moving, Filed, waiting, Going, current, opened}
 use Rattle.history.specs.Bytes.{Board, strobes, strobes_at, stored, worst}
 use Rattle.history.proofs.Responses.{worst_other}
 use Rattle.history.proofs.Waits.{waiting_stays, since_other}

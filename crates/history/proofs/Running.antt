@@ -19,7 +19,7 @@ use Rattle.fabric.specs.declared.types.FabricFault.TheVariants.{Below, Place}
 use Rattle.fabric.specs.Channels.{no_channels, no_requests}
 use Rattle.fabric.specs.Acts.{fits_below, create_answer}
 use Rattle.history.specs.History.{History, requests, picked, unpicked, waiting, current, opened}
-use Rattle.history.specs.Bytes.{Board, board, stored, worst}
+use Rattle.history.specs.Bytes.{Board, board, stored}
 use Rattle.history.specs.Owed.{Run}
 use Rattle.history.specs.Tracks.{Tracks}
 use Rattle.history.specs.Runs.{history_from, history_of, answers_from, answers_of, Performed}

@@ -1,5 +1,5 @@
 -- What the word of a take shows.
-use Rattle.std.proofs.Common.{◌≡◌, ℕ, zero, ◌*◌, ◌/◌, ◌%◌, ◌^◌, ◌<◌, true, false, cond, ◌&&◌, leb, [], ◌∷◌, Some, Ok, sym, refl, ap, ◌∙◌, subst, arith}
+use Rattle.std.proofs.Common.{◌≡◌, ℕ, ◌*◌, ◌/◌, ◌%◌, ◌^◌, ◌<◌, true, false, cond, ◌&&◌, leb, [], ◌∷◌, Some, Ok, sym, refl, ap, ◌∙◌, subst, arith}
 use Rattle.std.proofs.lemmas.Bool.{leb-true, and_parts, cond-true, cond_both, true≢false}
 use Rattle.burst.specs.declared.raw.RawBurst.{RawBurst}
 use Rattle.burst.specs.Beats.{address_of, last_of, lane_address}
@@ -71,12 +71,12 @@ module _ (m : Board) (s : BytesSmall m) (h : History) (g : Going) (k : Within g)
       let e : at (a % 8) ≡ a = covered_lane b j a k.lawful (leb-true (address_of b j) a p.0) (leb-true a (last_of b j) p.1) in
       lane_is (a % 8) (omega arith) ∙ ap (λ x. cond (covered b j x) (shown m h x) 0) e ∙ cond-true (covered b j a) (shown m h a) 0 c
 
-  -- what a plain and a read_only byte show
+  -- what a plain and a read-only byte show
   plain_shows : (a : ℕ) → m.kinds a ≡ plain → shown m h a ≡ stored m h a
   unfolding shown
   plain_shows a p = ap (λ y. shown_of y (stored m h a)) p
 
-  -- a read_only byte shows that of the creation
+  -- a read-only byte shows that of the creation
   fixed_shows : (a : ℕ) → m.kinds a ≡ read_only → shown m h a ≡ m.bytes a
   unfolding shown
   fixed_shows a p = ap (λ y. shown_of y (stored m h a)) p ∙ kept_held m h a (ap is_plain p)

@@ -15,7 +15,7 @@ use Rattle.slave.proofs.Calls.{take_taken, is_at_self}
 use Rattle.fabric.specs.declared.types.FabricFault.TheVariants.{NotOpen, Place}
 use Rattle.fabric.specs.Rows.{moved}
 use Rattle.fabric.specs.Acts.{passed, where_passed, carried, take_test, take_shown, take_answer, take_after, take_slave}
-use Rattle.history.specs.History.{Event, History, same, Going, current, burst_of, opened}
+use Rattle.history.specs.History.{Event, History, same, Going, burst_of, opened}
 use Rattle.history.specs.Bytes.{Board, shown, word_read, response_read, worst}
 use Rattle.history.specs.Owed.{owed, owed_take_at, take_of}
 use Rattle.history.proofs.Quiet.{event, Quiet, opened_quiet, channels_with, stored_quiet, worst_quiet, slave_same}

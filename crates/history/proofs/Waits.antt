@@ -5,7 +5,7 @@ use mathlib.Core.List.{Memᴰ}
 use Rattle.std.specs.List.{AllByRecursion as All}
 use Rattle.std.proofs.lemmas.List.Elements.{filter-append}
 use Rattle.std.proofs.ByRecursion.{all_kept_by, All-append, All-weaker}
-use Rattle.std.proofs.lemmas.Bool.{both_ways, ltb-true, ltb-false, lt-ltb, ne_eqb, cases_Bool, cases_lt, or_cases, or_parts, or_from, and_parts, and_from, not_true, not_from_false, cond-true, cond-false}
+use Rattle.std.proofs.lemmas.Bool.{both_ways, ltb-true, ltb-false, lt-ltb, ne_eqb, cases_Bool, cases_lt, or_cases, or_parts, or_from, and_parts, and_from, not-true, not_from_false, cond-true, cond-false}
 use Rattle.std.proofs.lemmas.Bool.Decides.{nat_tests}
 use Rattle.slave.specs.declared.answer.Channel.{Channel}
 use Rattle.fabric.specs.declared.types.Request.{Request}
@@ -186,7 +186,7 @@ own_picks ch h q e =
     let k = kept_in free ws t.0 in
     record {
       waits = k.0;
-      first = not_blocked ws q (not_true (blocked ws q) k.1);
+      first = not_blocked ws q (not-true (blocked ws q) k.1);
       highest = λ p m n. t.1 p (mem_kept free ws m (not_from_false (blocked ws p) (free_when ws p n)));
     }
 

@@ -2,7 +2,7 @@
 use Rattle.std.proofs.Common.{◌≡◌, ℕ, ◌+◌, ◌<◌, Bool, true, false, cond, not, ◌&&◌, ◌||◌, eqb, ltb, leb, ◌⊎◌, [], ◌∷◌, length, is_some, Some, None, Ok, Err, Option, sym, refl, ap, ◌∙◌, inl, inr, arith}
 use mathlib.Core.Bool.{beq}
 use mathlib.Core.List.{Memᴰ}
-use Rattle.std.proofs.lemmas.Bool.{both_ways, ltb-false, eq-eqb, ne_eqb, cases_Bool, and_parts, and_right, not_true, cond-true, cond-false, true≢false}
+use Rattle.std.proofs.lemmas.Bool.{both_ways, ltb-false, eq-eqb, ne_eqb, cases_Bool, and_parts, and_right, not-true, cond-true, cond-false, true≢false}
 use Rattle.burst.specs.Beats.{first_refusal, address_of, last_of}
 use Rattle.slave.specs.declared.answer.Channel.{Channel}
 use Rattle.slave.specs.declared.answer.Channel.TheVariants.{Write, Read}
@@ -67,7 +67,7 @@ grant_right m ch x h r e = go (grant_own m ch x h r.0 e)
     order : (q : Filed) → Picks ch h q → InOrder ch h q
     order q k = record {
       earlier_ones = λ p n l s. earlier q k p l s (waits_or_granted m ch h r.1 p n);
-      once = λ g. both_ways (among (picked ch h) q) (not_true (among (picked ch h) q) (waiting_in ch h k.waits).1) (granted_among ch h q g);
+      once = λ g. both_ways (among (picked ch h) q) (not-true (among (picked ch h) q) (waiting_in ch h k.waits).1) (granted_among ch h q g);
     }
 
     go : (p : Filed) × (own ch h ≡ Some p) × (x.answer ≡ Ok (Granted p.request.master p.request.id)) × (opened ch h ≡ None) → (q : Filed) × OwnRequest ch x h q × InOrder ch h q × Whole (current ch h)

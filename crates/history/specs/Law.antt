@@ -22,7 +22,7 @@ pub record Shows (m : Board) (before : History) (g : Going) (word : ℕ) : Type 
   pub latest : (a v : ℕ) → covered (burst_of g) g.beats a ≡ true → m.kinds a ≡ plain → Latest before a v → lane_byte word (a % 8) ≡ v
   -- without such a put, the byte of the creation
   pub untouched : (a : ℕ) → covered (burst_of g) g.beats a ≡ true → m.kinds a ≡ plain → NeverStrobed before a → lane_byte word (a % 8) ≡ m.bytes a
-  -- at a read_only address, the byte of the creation
+  -- at a read-only address, the byte of the creation
   pub fixed : (a : ℕ) → covered (burst_of g) g.beats a ≡ true → m.kinds a ≡ read_only → lane_byte word (a % 8) ≡ m.bytes a
   -- all else is zero: the lanes without a covered byte that is there, and what is above the eight lanes
   pub zero : (i : ℕ) → i < 8 → ((a : ℕ) → covered (burst_of g) g.beats a ≡ true → a % 8 ≡ i → is_there (m.kinds a) ≡ false) → lane_byte word i ≡ 0

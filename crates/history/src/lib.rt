@@ -1,4 +1,6 @@
 // Runs of a fabric over a slave, and the law over whole runs.
+#![tactic(auto)]
+
 mod example;
 mod runs;
 

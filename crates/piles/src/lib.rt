@@ -1,4 +1,6 @@
 // One list of acts over piles of adapters: every pile gives the same answers.
+#![tactic(auto)]
+
 #[cfg(test)]
 mod tests {
     use burst::RawBurst;

@@ -1,5 +1,5 @@
 -- Beats of an open burst: what memory's code computes is what the calls of a slave say.
-use Rattle.std.specs.Prelude.{◌≡◌, ℕ, ◌+◌, ◌-◌, ◌*◌, ◌/◌, ◌%◌, ◌^◌, ◌<◌, ◌≤◌, Bool, true, false, cond, not, ◌&&◌, ◌||◌, List, length, Ok, Err, vec_items, Result, nat_lt, slice_index, refl}
+use Rattle.std.specs.Prelude.{◌≡◌, ℕ, ◌+◌, ◌*◌, ◌/◌, ◌%◌, ◌<◌, ◌≤◌, true, false, cond, List, length, Ok, Err, vec_items, nat_lt, slice_index, refl}
 use Rattle.std.proofs.Common.{arith, sym, ◌∙◌, ap, subst, ⊎_elim}
 use Rattle.std.proofs.Math.Path.{fun_ext}
 use Rattle.std.proofs.lemmas.Bool.{true≢false, lt-ltb, cases_lt}
@@ -8,17 +8,15 @@ use Rattle.std.proofs.lemmas.Nat.{mod_below}
 use Rattle.burst.specs.declared.raw.RawBurst.{RawBurst}
 use Rattle.burst.specs.declared.raw.Width.{Width}
 use Rattle.burst.specs.Rules.{width_bytes}
-use Rattle.burst.specs.Beats.{first_refusal, address_of, last_of, lane_mask, covers, lane_address, bit}
+use Rattle.burst.specs.Beats.{first_refusal, address_of, last_of, lane_address, bit}
 use Rattle.burst.proofs.Facts.{beat_in_word, width_power}
 use Rattle.slave.specs.declared.answer.Response.{Response}
 use Rattle.slave.specs.declared.answer.Response.TheVariants.{Okay}
-use Rattle.slave.specs.declared.answer.SlaveFault.{SlaveFault}
 use Rattle.slave.specs.declared.answer.SlaveFault.TheVariants.{Strobe}
-use Rattle.slave.specs.declared.answer.Given.{Given}
 use Rattle.slave.specs.declared.answer.Given.TheVariants.{More, Done}
-use Rattle.slave.specs.Meaning.{Meaning, ByteKind, plain, unmapped, Stand, idle, busy, dead, told, sound_stand, Sound, is_idle, is_there, with_write, with_read}
-use Rattle.slave.specs.Lanes.{stray, outside, worse, worst_lane, write_response, write_worst, read_word, read_worst, written}
-use Rattle.slave.specs.Acts.{give_answer, give_after, gave_answer, gave_after, take_answer, take_after, took_answer, past, left, worst_after}
+use Rattle.slave.specs.Meaning.{Meaning, ByteKind, plain, unmapped, Stand, idle, busy, dead, told, sound_stand, Sound, is_idle, is_there, with_write}
+use Rattle.slave.specs.Lanes.{stray, worse, worst_lane, write_response, read_word, written}
+use Rattle.slave.specs.Acts.{give_answer, give_after, take_answer, take_after, past, left, worst_after}
 use Rattle.slave.proofs.Calls.{open_left, open_lawful, give_stray, give_taken, take_taken}
 use Rattle.slave.proofs.Soundness.{dead_sound, past_sound}
 use Rattle.ram.specs.declared.state.Ram.{Ram}

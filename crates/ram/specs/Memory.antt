@@ -1,8 +1,8 @@
 -- Bytes in memory, by words of a bus.
-use Rattle.std.specs.Prelude.{ℕ, zero, suc, ◌+◌, ◌*◌, ◌/◌, ◌%◌, ◌^◌, ◌<◌, ◌≤◌, Bool, true, false, cond, not, ◌&&◌, ◌||◌, List, length, nat_lt, slice_index, slice_set}
+use Rattle.std.specs.Prelude.{ℕ, zero, suc, ◌+◌, ◌%◌, cond, List, length, nat_lt, slice_index, slice_set}
 use Rattle.slave.specs.declared.answer.Response.{Response}
-use Rattle.slave.specs.declared.answer.Response.TheVariants.{Okay, SlvErr, DecErr}
-use Rattle.slave.specs.Meaning.{ByteKind, plain, read_only, absent, unmapped}
+use Rattle.slave.specs.declared.answer.Response.TheVariants.{Okay}
+use Rattle.slave.specs.Meaning.{ByteKind, plain, unmapped}
 use Rattle.burst.specs.Beats.{covers, lane_address}
 use Rattle.slave.specs.Lanes.{lane_byte, word_of, worst_lane, read_response, shown_of}
 use Rattle.burst.specs.Beats.{bit}

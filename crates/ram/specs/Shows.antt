@@ -1,5 +1,5 @@
 -- What memory shows as a slave.
-use Rattle.std.specs.Prelude.{ℕ, ◌%◌, Bool, true, false, cond, List, length, vec_items, ◌==◌, slice_index}
+use Rattle.std.specs.Prelude.{ℕ, ◌%◌, true, false, cond, List, length, vec_items, ◌==◌, slice_index}
 use Rattle.burst.specs.Rules.{width_bytes}
 use Rattle.slave.specs.declared.answer.Response.{Response}
 use Rattle.slave.specs.declared.answer.Response.TheVariants.{Okay}

@@ -1,16 +1,16 @@
 -- What a store of lanes leaves in memory.
-use Rattle.std.specs.Prelude.{◌≡◌, ℕ, zero, suc, ◌+◌, ◌-◌, ◌*◌, ◌/◌, ◌%◌, ◌^◌, ◌<◌, ◌≤◌, Bool, true, false, cond, not, ◌&&◌, ◌||◌, ltb, List, length, nat_le, nat_lt, slice_index, slice_index_or, slice_set, refl}
+use Rattle.std.specs.Prelude.{◌≡◌, ℕ, zero, suc, ◌+◌, ◌-◌, ◌*◌, ◌/◌, ◌%◌, ◌^◌, ◌<◌, ◌≤◌, Bool, true, false, cond, not, ◌&&◌, ltb, List, length, nat_le, nat_lt, slice_index, slice_index_or, slice_set, refl}
 use Rattle.std.proofs.Common.{arith, add-one, sym, ◌∙◌, ap, subst, ⊎_elim, length-set, get_or-set_same, get_or-set_other, mod-eq_of_lt}
 use Rattle.std.proofs.Math.Seq.{set_out}
 use Rattle.std.proofs.lemmas.Bool.{cond_both, cond-true, cond-false, cases_lt, cases_eq, cases_Bool, lt-ltb, le-ltb}
 use Rattle.std.proofs.lemmas.Nat.{div-add-mod', mod_below, mod-mul-add}
-use Rattle.burst.specs.Beats.{covers, lane_address}
+use Rattle.burst.specs.Beats.{covers}
 use Rattle.burst.proofs.Facts.{InWord}
 use Rattle.slave.proofs.Words.{kept_lane}
 use Rattle.std.proofs.lemmas.Bool.Decides.{nat_tests}
 use Rattle.slave.specs.Lanes.{lane_byte, stray, is_plain}
 use Rattle.burst.specs.Beats.{bit}
-use Rattle.slave.specs.Meaning.{ByteKind, plain, unmapped}
+use Rattle.slave.specs.Meaning.{plain, unmapped}
 use Rattle.ram.specs.Memory.{put_lanes, kind_at}
 
 -- one lane more

@@ -1,4 +1,6 @@
 // Memory as a slave.
+#![tactic(auto)]
+
 mod calls;
 mod making;
 mod memory;

@@ -1,13 +1,12 @@
 -- Lines tell their acts' numbers and outcomes.
 use Rattle.std.proofs.Common.{◌≡◌, ℕ, ◌^◌, ◌<◌, Bool, true, false, cond, eqb, List, [], ◌∷◌, ◌++◌, drop, codes, decimal, sym, refl, ap, ◌∙◌, append_assoc, arith, lit<}
 use Rattle.slave.specs.declared.answer.Response.{Response}
-use Rattle.fabric.specs.declared.types.Answer.{Answer}
 use Rattle.fabric.specs.declared.types.Answer.TheVariants.{Accepted, Granted, More, Done, Beat}
 use Rattle.report.specs.declared.told.Layer.{Layer}
 use Rattle.report.specs.declared.told.Told.{Told}
 use Rattle.report.specs.declared.told.Told.TheVariants.{Answer as Answered, Fault}
-use Rattle.report.specs.Lines.{hex2, hex_bytes, response_name, layer_letter, source, last_word, answer_words, words, line}
-use Rattle.report.specs.Laws.{AnswerFits, ToldFits, answer_shown, shown, SameLine, LinesTell}
+use Rattle.report.specs.Lines.{hex_bytes, response_name, layer_letter, source, last_word, words, line}
+use Rattle.report.specs.Laws.{AnswerFits, ToldFits, shown, SameLine, LinesTell}
 use Rattle.report.proofs.Fields.{differ, number_told, word_told, source_told, response_told, layer_told, last_told}
 
 -- what the same words before a line's end say

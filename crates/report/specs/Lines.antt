@@ -1,5 +1,5 @@
 -- The bytes of a report line.
-use Rattle.std.specs.Prelude.{ℕ, zero, suc, ◌/◌, ◌%◌, Bool, true, cond, List, [], ◌∷◌, ◌++◌, length, drop, codes, decimal, ◌==◌, nat_le}
+use Rattle.std.specs.Prelude.{ℕ, zero, suc, ◌/◌, ◌%◌, true, cond, List, [], ◌∷◌, ◌++◌, length, drop, codes, decimal, ◌==◌, nat_le}
 use Rattle.std.specs.Fmt.{digit_glyph}
 use Rattle.slave.specs.declared.answer.Response.{Response}
 use Rattle.slave.specs.declared.answer.Response.TheVariants.{Okay, SlvErr, DecErr}

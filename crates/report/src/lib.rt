@@ -1,4 +1,6 @@
 // A line of text for each outcome of an act.
+#![tactic(auto)]
+
 mod line;
 mod told;
 

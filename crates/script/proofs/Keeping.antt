@@ -1,7 +1,6 @@
 -- Acts and records tell each other.
-use Rattle.std.proofs.Common.{◌≡◌, ℕ, zero, suc, ◌+◌, ◌-◌, ◌^◌, ◌<◌, ◌≤◌, Bool, true, false, cond, ◌&&◌, eqb, leb, ◌⊎◌, List, [], ◌∷◌, ◌++◌, length, get_or, take, drop, Some, None, Ok, Err, Result, sym, refl, ap, ◌∙◌, subst, inl, inr, ⊎_elim, arith, lit<, eqb-true}
+use Rattle.std.proofs.Common.{◌≡◌, ℕ, ◌+◌, ◌-◌, ◌^◌, ◌<◌, Bool, true, false, cond, ◌&&◌, eqb, leb, ◌⊎◌, List, ◌∷◌, ◌++◌, length, get_or, Some, None, Ok, Err, Result, sym, refl, ap, ◌∙◌, subst, inl, inr, ⊎_elim, arith, lit<, eqb-true}
 use Rattle.std.proofs.lemmas.Bool.Decides.{nat_tests}
-use Rattle.burst.specs.declared.raw.RawBurst.{RawBurst}
 use Rattle.slave.specs.declared.answer.Channel.{Channel}
 use Rattle.slave.specs.declared.answer.Channel.TheVariants.{Write, Read}
 use Rattle.fabric.specs.declared.types.Act.{Act}
@@ -10,7 +9,7 @@ use Rattle.script.specs.declared.fault.ScriptFault.{ScriptFault}
 use Rattle.script.specs.declared.fault.ScriptFault.TheVariants.{Record as BadRecord}
 use Rattle.script.specs.declared.record.Record.{Record}
 use Rattle.script.specs.Bytes.{Bytes, low_first, low_bytes}
-use Rattle.script.specs.Records.{record_of, record_bytes, read_record}
+use Rattle.script.specs.Records.{record_of, record_bytes}
 use Rattle.script.specs.Acts.{no_burst, no_beat, request_answer, put_answer, bare_answer, act_of, act_in, read_act, writable, only, request_code, act_record, act_bytes}
 use Rattle.script.specs.Laws.{ActFits, ActsKept}
 use Rattle.script.proofs.Parting.{both}

@@ -1,6 +1,6 @@
 -- A script's parts make up its file.
 use Rattle.std.proofs.Common.{◌≡◌, ℕ, ◌+◌, ◌*◌, ◌≤◌, Bool, true, false, ◌&&◌, eqb, leb, List, ◌++◌, length, take, drop, sym, refl, ap, ◌∙◌, arith, length-drop, take-append-drop, length-take-le, eqb-true, leb-true}
-use Rattle.script.specs.Files.{header_of, fits, image_of, opens, records_of}
+use Rattle.script.specs.Files.{header_of, fits, opens}
 use Rattle.script.specs.Laws.{Parts, FilesParted}
 
 -- both of two tests passed

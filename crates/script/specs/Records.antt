@@ -1,5 +1,5 @@
 -- The fields of a record of 24 bytes.
-use Rattle.std.specs.Prelude.{ℕ, cond, List, [], ◌∷◌, ◌++◌, length, Some, None, Option, ◌==◌, slice_index}
+use Rattle.std.specs.Prelude.{ℕ, cond, List, ◌∷◌, ◌++◌, length, Some, None, Option, ◌==◌, slice_index}
 use Rattle.script.specs.declared.record.Record.{Record}
 use Rattle.script.specs.Bytes.{low_bytes, number_at}
 

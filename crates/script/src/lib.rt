@@ -1,4 +1,6 @@
 // Scripts: a header, acts as records of 24 bytes, and an image, all parts of one file.
+#![tactic(auto)]
+
 mod acts;
 mod bytes;
 mod fault;

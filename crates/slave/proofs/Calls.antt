@@ -1,14 +1,12 @@
 -- Calls of a slave by what it shows: which answer they get, and what they leave as it is.
-use Rattle.std.proofs.Common.{◌≡◌, ℕ, zero, suc, ◌+◌, ◌-◌, ◌*◌, ◌/◌, ◌%◌, ◌^◌, ◌<◌, ◌≤◌, Bool, true, false, cond, not, ◌&&◌, ◌||◌, eqb, ltb, leb, Ok, Err, Result, sym, refl, ap, ◌∙◌, subst, ⊎_elim, arith}
+use Rattle.std.proofs.Common.{◌≡◌, ℕ, ◌<◌, ◌≤◌, Bool, true, false, cond, not, ◌&&◌, ◌||◌, eqb, ltb, Ok, Err, Result, sym, refl, ap, ◌∙◌, subst, arith}
 use Rattle.std.proofs.lemmas.Bool.{cond-true, cond-false, true≢false, and_parts, and_from, eqb-true, eq-eqb, le-ltb, ltb-true}
-use Rattle.std.proofs.lemmas.Bool.Decides.{nat_tests}
 use Rattle.burst.specs.declared.raw.RawBurst.{RawBurst}
 use Rattle.burst.specs.Rules.{fault_at}
 use Rattle.burst.specs.Beats.{address_of, last_of, first_refusal}
 use Rattle.slave.specs.declared.answer.Channel.{Channel}
-use Rattle.slave.specs.declared.answer.Channel.TheVariants.{Write, Read}
 use Rattle.slave.specs.declared.answer.SlaveFault.{SlaveFault}
-use Rattle.slave.specs.declared.answer.SlaveFault.TheVariants.{Unlawful, Simple, Strobe, Dead, NotOpen, AlreadyOpen}
+use Rattle.slave.specs.declared.answer.SlaveFault.TheVariants.{Unlawful, Simple, Strobe, Dead, AlreadyOpen}
 use Rattle.slave.specs.Meaning.{Meaning, Stand, idle, busy, with_read, stand_at, is_idle, is_at, same_burst, sound_stand}
 use Rattle.slave.specs.Lanes.{stray}
 use Rattle.slave.specs.Acts.{on_ok, map_ok, then_ok, beat_at, past, too_much, admission, open_answer, open_after, opened, give_beat, give_answer, give_after, gave_answer, gave_after, take_answer, take_after, took_answer}

@@ -1,20 +1,18 @@
 -- Every call keeps a slave sound.
-use Rattle.std.proofs.Common.{◌≡◌, ℕ, ◌+◌, ◌*◌, ◌/◌, ◌%◌, ◌^◌, ◌<◌, ◌≤◌, Bool, true, false, cond, ◌&&◌, eqb, ltb, leb, Ok, Err, Result, sym, refl, ap, ◌∙◌, subst, ⊎_elim, arith}
-use Rattle.std.proofs.lemmas.Bool.{cond_both, cond-false, cases_Bool, true≢false, and_from, and_parts, lt-ltb, eqb-true, eq-eqb}
+use Rattle.std.proofs.Common.{◌≡◌, ℕ, ◌+◌, ◌*◌, ◌/◌, ◌%◌, ◌^◌, ◌<◌, Bool, true, false, cond, ◌&&◌, ltb, Ok, Err, sym, refl, ap, ◌∙◌, subst, ⊎_elim, arith}
+use Rattle.std.proofs.lemmas.Bool.{cond_both, cond-false, cases_Bool, true≢false}
 use Rattle.std.proofs.lemmas.Nat.{mod_below}
 use Rattle.std.proofs.lemmas.Bool.Decides.{nat_tests}
 use Rattle.burst.specs.declared.raw.RawBurst.{RawBurst}
-use Rattle.burst.specs.Beats.{address_of, last_of, first_refusal, covers, bit}
+use Rattle.burst.specs.Beats.{address_of, last_of, covers, bit}
 use Rattle.slave.specs.declared.answer.Response.{Response}
 use Rattle.slave.specs.declared.answer.Response.TheVariants.{Okay}
-use Rattle.slave.specs.declared.answer.Channel.{Channel}
-use Rattle.slave.specs.declared.answer.Channel.TheVariants.{Write, Read}
 use Rattle.slave.specs.declared.answer.SlaveFault.{SlaveFault}
 use Rattle.slave.specs.declared.answer.SlaveFault.TheVariants.{Strobe, Dead, NotOpen}
-use Rattle.slave.specs.Meaning.{Meaning, ByteKind, plain, read_only, absent, unmapped, Stand, idle, busy, dead, Sound, sound_stand, is_there, is_idle, with_read, with_write}
-use Rattle.slave.specs.Lanes.{stray, lane_byte, is_plain, written}
-use Rattle.slave.specs.Acts.{on_ok, then_ok, beat_at, past, give_beat, give_after, gave_after, take_after, worst_after}
-use Rattle.slave.proofs.Calls.{give_stray, give_taken, take_taken}
+use Rattle.slave.specs.Meaning.{Meaning, ByteKind, plain, read_only, absent, unmapped, Stand, idle, busy, dead, Sound, sound_stand, is_there, is_idle, with_read}
+use Rattle.slave.specs.Lanes.{stray, lane_byte, is_plain}
+use Rattle.slave.specs.Acts.{on_ok, then_ok, beat_at, past, give_beat, give_after, gave_after, worst_after}
+use Rattle.slave.proofs.Calls.{give_stray, give_taken}
 
 pub dead_sound : Sound dead
 dead_sound = record {

@@ -1,12 +1,10 @@
 -- Words and the bytes in their lanes.
-use Rattle.std.proofs.Common.{◌≡◌, ℕ, zero, suc, ◌+◌, ◌-◌, ◌*◌, ◌/◌, ◌%◌, ◌^◌, ◌<◌, ◌≤◌, Bool, true, false, cond, not, ◌&&◌, eqb, ltb, leb, sym, refl, ap, ◌∙◌, subst, ⊎_elim, arith, pow_mono}
+use Rattle.std.proofs.Common.{◌≡◌, ℕ, ◌*◌, ◌%◌, ◌^◌, ◌<◌, ◌≤◌, false, not, ◌&&◌, sym, ap, ◌∙◌, arith, pow_mono}
 use native.Mathlib.Nat.{div-eq_of_lt}
-use Rattle.std.proofs.lemmas.Bool.{cond_both, cases_Bool, and_parts}
-use Rattle.std.proofs.lemmas.Bool.Decides.{nat_tests}
-use Rattle.burst.specs.Beats.{covers, lane_address, lane_mask, bit, any_below}
+use Rattle.burst.specs.Beats.{covers, lane_address, lane_mask, bit}
 use Rattle.burst.proofs.Facts.{InWord}
 use Rattle.burst.proofs.Masks.{below_8, none_below, mask_covers}
-use Rattle.slave.specs.Meaning.{Meaning, ByteKind, plain, read_only, absent, unmapped, Sound}
+use Rattle.slave.specs.Meaning.{Meaning, plain, read_only, absent, unmapped, Sound}
 use Rattle.slave.specs.Lanes.{lane_byte, word_of, stray, shown, shown_of}
 
 -- a word has eight lanes

@@ -1,5 +1,5 @@
 -- Words by their lanes, responses, and what a beat reads and writes.
-use Rattle.std.specs.Prelude.{ℕ, zero, suc, ◌+◌, ◌*◌, ◌/◌, ◌%◌, ◌^◌, ◌<◌, ◌≤◌, Bool, true, false, cond, not, ◌&&◌, ◌||◌, nat_lt}
+use Rattle.std.specs.Prelude.{ℕ, zero, suc, ◌+◌, ◌*◌, ◌/◌, ◌%◌, ◌^◌, Bool, true, false, cond, not, ◌&&◌, nat_lt}
 use Rattle.burst.specs.Beats.{covers, lane_address, lane_mask, bit, any_below}
 use Rattle.slave.specs.declared.answer.Response.{Response}
 use Rattle.slave.specs.declared.answer.Response.TheVariants.{Okay, SlvErr, DecErr}

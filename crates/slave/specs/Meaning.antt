@@ -1,15 +1,15 @@
 -- What a slave shows, and what holds of every slave at all times.
-use Rattle.std.specs.Prelude.{◌≡◌, ℕ, ◌+◌, ◌^◌, ◌<◌, ◌≤◌, Bool, true, false, cond, not, ◌&&◌, ◌||◌, ◌==◌, nat_lt}
+use Rattle.std.specs.Prelude.{◌≡◌, ℕ, ◌^◌, ◌<◌, ◌≤◌, Bool, true, false, ◌&&◌, ◌==◌, nat_lt}
 use Rattle.burst.specs.declared.raw.RawBurst.{RawBurst}
 use Rattle.burst.specs.Beats.{raw_of, first_refusal}
 use Rattle.slave.specs.declared.answer.Response.{Response}
-use Rattle.slave.specs.declared.answer.Response.TheVariants.{Okay, SlvErr, DecErr}
+use Rattle.slave.specs.declared.answer.Response.TheVariants.{Okay}
 use Rattle.slave.specs.declared.answer.Channel.{Channel}
 use Rattle.slave.specs.declared.answer.Channel.TheVariants.{Write, Read}
 use Rattle.slave.specs.declared.answer.Place.{Place}
 use Rattle.slave.specs.declared.answer.Place.TheVariants.{Idle, Open}
 
--- what a byte is: a plain one takes writes, a read_only one keeps its value, an absent or unmapped one is not there
+-- what a byte is: a plain one takes writes, a read-only one keeps its value, an absent or unmapped one is not there
 pub data ByteKind : Type 0 where
   plain : ByteKind
   read_only : ByteKind

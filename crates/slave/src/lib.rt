@@ -1,4 +1,6 @@
 // The slave interface: what a slave shows, what it answers, and what each call does to it.
+#![tactic(auto)]
+
 mod admit;
 mod answer;
 mod interface;

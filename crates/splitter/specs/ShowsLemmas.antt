@@ -1,5 +1,5 @@
 -- What a splitter shows, that it is sound, and what an open leaves.
-use Rattle.std.specs.Prelude.{◌≡◌, ℕ, true, false, cond, ◌==◌, nat_lt, refl}
+use Rattle.std.specs.Prelude.{◌≡◌, ℕ, true, cond, ◌==◌, nat_lt, refl}
 use Rattle.std.proofs.Common.{arith, sym, ◌∙◌, ap, subst, ⊎_elim}
 use Rattle.std.proofs.lemmas.Bool.{eq-eqb, cond-true, cond_both, cases_Bool, lt-ltb, and_from, true≢false}
 use Rattle.burst.specs.declared.checked.Burst.{Burst}
@@ -13,7 +13,7 @@ use Rattle.slave.specs.declared.answer.Place.{Place}
 use Rattle.slave.specs.declared.answer.Place.TheVariants.{Idle, Open}
 use Rattle.slave.specs.Meaning.{Meaning, Stand, idle, busy, dead, Sound, sound_stand, with_write, stand_at, is_idle, told}
 use Rattle.slave.specs.Lanes.{worse}
-use Rattle.slave.specs.Acts.{opened, left}
+use Rattle.slave.specs.Acts.{opened}
 use Rattle.slave.proofs.Calls.{idle_is}
 use Rattle.slave.proofs.Soundness.{dead_sound}
 use Rattle.splitter.specs.Splits.{on_place, fits, worst_of, split_shows, split_of, follow_after, run_below, run_stand}

@@ -1,4 +1,6 @@
 // The splitter: a full slave over one that takes only short INCR bursts.
+#![tactic(auto)]
+
 mod adapter;
 mod calls;
 mod making;

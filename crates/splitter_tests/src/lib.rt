@@ -1,4 +1,6 @@
 // Splitters over a recording memory: what goes down is compared with the runs.
+#![tactic(auto)]
+
 #[cfg(test)]
 mod tests {
     use burst::{RawBurst, Width};

@@ -1,5 +1,5 @@
 -- The bytes of a frame in the lanes of a bus of eight bytes.
-use Rattle.std.specs.Prelude.{ℕ, ◌+◌, ◌-◌, ◌*◌, ◌%◌, Bool, cond, ◌&&◌, List, length, nat_le, nat_lt, slice_index}
+use Rattle.std.specs.Prelude.{ℕ, ◌+◌, ◌-◌, Bool, cond, ◌&&◌, List, length, nat_le, nat_lt, slice_index}
 use Rattle.burst.specs.Beats.{mask_below}
 use Rattle.slave.specs.Lanes.{word_of}
 

@@ -1,4 +1,6 @@
 // Acts that move a frame over a fabric, in beats of eight bytes.
+#![tactic(auto)]
+
 mod acts;
 mod carry;
 mod step;

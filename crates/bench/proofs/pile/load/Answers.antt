@@ -9,7 +9,7 @@ returns c =
     let N : ℕ = length c.args.memory.now in
     let z : n - 0 ≡ n = omega arith in
     let f : c.fill.new.self ≡ replicate N 0 = search rules in
-    ap (λ (k : ℕ). c.copy-from-slice.new.self ++ drop k c.fill.new.self) z
-    ∙ ap (λ (xs : List ℕ). xs ++ drop n c.fill.new.self) c.copy-from-slice.ensures.after
+    ap (λ (k : ℕ). c.copy_from_slice.new.self ++ drop k c.fill.new.self) z
+    ∙ ap (λ (xs : List ℕ). xs ++ drop n c.fill.new.self) c.copy_from_slice.ensures.after
     ∙ ap (λ (xs : List ℕ). c.args.image.now ++ drop n xs) f
     ∙ ap (λ (xs : List ℕ). c.args.image.now ++ xs) (drop-replicate n N 0)

@@ -1,5 +1,5 @@
 -- An act goes on with the run, and a bad record leaves it.
-use Rattle.std.proofs.Common.{◌≡◌, sym, refl, ap, ◌∙◌}
+use Rattle.std.proofs.Common.{sym, ap, ◌∙◌}
 use Rattle.slave.specs.Meaning.{Meaning}
 use Rattle.fabric.specs.Channels.{Channels, channels_of}
 use Rattle.bench.specs.Outcomes.{lifted, record_answer, record_after, record_slave}

@@ -1,4 +1,4 @@
-use Rattle.std.proofs.Common.{◌≡◌, ◌+◌, ◌-◌, ◌*◌, ◌/◌, ◌%◌, ◌<◌, arith}
+use Rattle.std.proofs.Common.{◌+◌, ◌-◌, ◌*◌, ◌/◌, ◌<◌, arith}
 use Rattle.std.proofs.lemmas.Nat.{div-add-mod', mod_below}
 use Rattle.burst.proofs.Facts.{more, top_of, power_le}
 use Rattle.burst.proofs.beats.wrap_address.Goals as goal
@@ -6,14 +6,14 @@ use Rattle.burst.proofs.beats.wrap_address.Goals as goal
 positive : (c : goal.Start) → 0 < c.args.n * c.args.beat
 positive c = omega (arith, more c.args.j c.args.n c.args.beat c.requires.below, c.requires.nonzero)
 
-pub nonzero-div-low : goal.nonzero-div-low
-nonzero-div-low c = positive c
+pub nonzero_div-low : goal.nonzero_div-low
+nonzero_div-low c = positive c
 
-pub overflow-mul-result : goal.overflow-mul-result
-overflow-mul-result c = omega (arith, more c.args.j c.args.n c.args.beat c.requires.below, power_le (c.args.n * c.args.beat) 7 c.requires.power)
+pub overflow_mul-result : goal.overflow_mul-result
+overflow_mul-result c = omega (arith, more c.args.j c.args.n c.args.beat c.requires.below, power_le (c.args.n * c.args.beat) 7 c.requires.power)
 
-pub overflow-add-result : goal.overflow-add-result
-overflow-add-result c =
+pub overflow_add-result : goal.overflow_add-result
+overflow_add-result c =
     omega (
       arith,
       div-add-mod' c.args.start (c.args.n * c.args.beat),
@@ -22,11 +22,11 @@ overflow-add-result c =
       power_le (c.args.n * c.args.beat) 7 c.requires.power,
     )
 
-pub nonzero-rem-result : goal.nonzero-rem-result
-nonzero-rem-result c = positive c
+pub nonzero_rem-result : goal.nonzero_rem-result
+nonzero_rem-result c = positive c
 
-pub overflow-add-result-2 : goal.overflow-add-result-2
-overflow-add-result-2 c =
+pub overflow_add-result-2 : goal.overflow_add-result-2
+overflow_add-result-2 c =
     omega (
       arith,
       top_of c.args.start (c.args.n * c.args.beat) 7 (omega arith) (omega arith) c.requires.power,

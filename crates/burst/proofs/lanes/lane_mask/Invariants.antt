@@ -1,5 +1,5 @@
 -- The mask of the lanes so far, which has no bit from there on.
-use Rattle.std.proofs.Common.{◌≡◌, ℕ, ◌^◌, ◌<◌}
+use Rattle.std.proofs.Common.{◌≡◌, ◌^◌, ◌<◌}
 use Rattle.burst.specs.Beats.{mask_below, lane_used}
 use Rattle.burst.proofs.lanes.lane_mask.Given as goal
 

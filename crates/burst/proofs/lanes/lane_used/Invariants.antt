@@ -1,5 +1,5 @@
 -- Whether one of the bytes so far travels in the lane.
-use Rattle.std.proofs.Common.{◌≡◌, ℕ, ◌+◌, ◌%◌, ◌&&◌, eqb, leb}
+use Rattle.std.proofs.Common.{◌≡◌, ◌+◌, ◌%◌, ◌&&◌, eqb, leb}
 use Rattle.burst.specs.Beats.{any_below}
 use Rattle.burst.proofs.lanes.lane_used.Given as goal
 

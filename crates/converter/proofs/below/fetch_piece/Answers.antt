@@ -7,8 +7,8 @@ use Rattle.converter.specs.Spans.{moved_word}
 use Rattle.converter.specs.Parts.{part_lawful, part_read, part_read_worst}
 use Rattle.converter.proofs.below.fetch_piece.Goals as goal
 
-pub read-one-got-requires : goal.read-one-got-requires
-read-one-got-requires g c =
+pub read_one-got-requires : goal.read_one-got-requires
+read_one-got-requires g c =
     let m = g.S.Slave.meaning c.args.below.now in
     record { ready = c.requires.ready; lawful = part_lawful m c.args.narrow c.args.first c.args.last c.args.code c.requires.bus c.requires.piece }
 
@@ -16,12 +16,12 @@ pub returns : goal.returns
 returns g c =
     let m = g.S.Slave.meaning c.args.below.now in
     record {
-      word = c.move-word.ensures ∙ ap (λ x. moved_word c.args.word x c.args.base c.args.first c.args.last c.args.narrow)
-          (part_read m c.args.narrow c.args.first c.args.last c.args.code c.requires.bus c.requires.piece c.read-one-got.result.0 c.read-one-got.ensures.word);
-      worst = part_read_worst m c.args.narrow c.args.first c.args.last c.args.code c.requires.bus c.requires.piece c.read-one-got.result.1 c.read-one-got.ensures.worst;
-      after = c.read-one-got.ensures.after;
-      got = ap (λ z. (z, c.read-one-got.result.1)) c.move-word.ensures
-          ∙ ap (λ z. (moved_word c.args.word z.0 c.args.base c.args.first c.args.last c.args.narrow, z.1)) c.read-one-got.ensures.got
+      word = c.move_word.ensures ∙ ap (λ x. moved_word c.args.word x c.args.base c.args.first c.args.last c.args.narrow)
+          (part_read m c.args.narrow c.args.first c.args.last c.args.code c.requires.bus c.requires.piece c.read_one-got.result.0 c.read_one-got.ensures.word);
+      worst = part_read_worst m c.args.narrow c.args.first c.args.last c.args.code c.requires.bus c.requires.piece c.read_one-got.result.1 c.read_one-got.ensures.worst;
+      after = c.read_one-got.ensures.after;
+      got = ap (λ z. (z, c.read_one-got.result.1)) c.move_word.ensures
+          ∙ ap (λ z. (moved_word c.args.word z.0 c.args.base c.args.first c.args.last c.args.narrow, z.1)) c.read_one-got.ensures.got
           ∙ ap (λ v. (moved_word c.args.word (got_of (take_answer (open_after m Read (piece_burst c.args.code c.args.first)))).0 c.args.base c.args.first c.args.last v, (got_of (take_answer (open_after m Read (piece_burst c.args.code c.args.first)))).1)) c.requires.bus;
-      sent = c.read-one-got.ensures.sent;
+      sent = c.read_one-got.ensures.sent;
     }

@@ -9,7 +9,7 @@ pub returns : goal.returns
 returns g c =
     let x = c.args.below.now in
     let m = g.S.Slave.meaning x in
-    let o = c.open.ensures.after ∙ ap (open_after m Read) c.one-beat-burst.ensures in
+    let o = c.open.ensures.after ∙ ap (open_after m Read) c.one_beat-burst.ensures in
     let n1 = g.S.Slave.meaning c.open.new.self in
     let n2 = g.S.Slave.meaning c.take.new.self in
     let e = c.got.ensures ∙ ap got_of (read_answer m c.args.size c.args.start (g.met.S.Slave.sound x) c.requires.ready c.requires.lawful n1 n2 c.take.result

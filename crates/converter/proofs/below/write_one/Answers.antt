@@ -9,7 +9,7 @@ pub returns : goal.returns
 returns g c =
     let x = c.args.below.now in
     let m = g.S.Slave.meaning x in
-    let o = c.open.ensures.after ∙ ap (open_after m Write) c.one-beat-burst.ensures in
+    let o = c.open.ensures.after ∙ ap (open_after m Write) c.one_beat-burst.ensures in
     let n1 = g.S.Slave.meaning c.open.new.self in
     let n2 = g.S.Slave.meaning c.give.new.self in
     record {

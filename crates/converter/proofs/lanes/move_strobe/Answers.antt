@@ -9,8 +9,8 @@ loop-i-init c = (refl, omega arith)
 
 pub loop-i-preserved : goal.loop-i-preserved
 loop-i-preserved c = (
-  mask_more _ c.loop-i.i c.loop-i.mask c.moved-bit-mask.result c.loop-i.invariant.0
-      (c.moved-bit-mask.ensures.value
+  mask_more _ c.loop-i.i c.loop-i.mask c.moved_bit-mask.result c.loop-i.invariant.0
+      (c.moved_bit-mask.ensures.value
       ∙ ap (λ x. cond (covers c.from-low.result c.from-high.result (c.from-origin.result + x) && bit c.args.strobe ((c.from-origin.result + x) % c.from-wide.result)) (2 ^ c.loop-i.i) 0) c.from.ensures),
-  mask_fits c.loop-i.i c.loop-i.mask c.moved-bit-mask.result c.loop-i.invariant.1 c.moved-bit-mask.ensures.bound,
+  mask_fits c.loop-i.i c.loop-i.mask c.moved_bit-mask.result c.loop-i.invariant.1 c.moved_bit-mask.ensures.bound,
 )

@@ -1,4 +1,4 @@
-use Rattle.std.proofs.Common.{◌≡◌, ℕ, ◌+◌, ◌%◌, ◌<◌, cond, ◌≢◌, length, get_or, sym, refl, ap, ◌∙◌, arith, length-set, get_or-set_other, get_or-set_same, below_more}
+use Rattle.std.proofs.Common.{ℕ, ◌+◌, ◌%◌, ◌<◌, cond, ◌≢◌, length, get_or, ap, ◌∙◌, arith, length-set, get_or-set_other, get_or-set_same, below_more}
 use Rattle.burst.specs.Beats.{covers}
 use Rattle.slave.specs.Lanes.{word_of, shown_of}
 use Rattle.slave.proofs.Words.{word_same}
@@ -16,7 +16,7 @@ loop-i-preserved c = (
 pub returns : goal.returns
 returns c =
     let f : ℕ → ℕ → ℕ → ℕ → ℕ = λ lo hi base k. cond (covers lo hi (base + k)) (shown_of (kind_at c.args.mem.now (base + k)) (get_or c.args.mem.now (base + k) 0 % 256)) 0 in
-    c.from-le-bytes.ensures
+    c.from_le_bytes.ensures
     ∙ word_same (λ k. get_or c.loop-i.lanes k 0) (f c.from-low.result c.from-high.result c.from-base.result) (λ k h. c.loop-i.invariant.1 k (omega arith))
     ∙ ap (λ x. word_of (f x c.from-high.result c.from-base.result)) c.from-low.ensures
     ∙ ap (λ x. word_of (f c.args.first x c.from-base.result)) c.from-high.ensures

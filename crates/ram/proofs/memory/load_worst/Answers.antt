@@ -1,4 +1,4 @@
-use Rattle.std.proofs.Common.{◌≡◌, ℕ, ◌+◌, cond, sym, refl, ap, ◌∙◌}
+use Rattle.std.proofs.Common.{◌+◌, cond, refl, ap, ◌∙◌}
 use Rattle.burst.specs.Beats.{covers}
 use Rattle.slave.specs.declared.answer.Response.TheVariants.{Okay}
 use Rattle.slave.specs.Lanes.{worst_lane, read_response}

@@ -1,4 +1,4 @@
-use Rattle.std.proofs.Common.{◌≡◌, ℕ, ◌+◌, cond}
+use Rattle.std.proofs.Common.{◌≡◌, ◌+◌, cond}
 use Rattle.slave.specs.declared.answer.Response.TheVariants.{Okay}
 use Rattle.burst.specs.Beats.{covers}
 use Rattle.slave.specs.Lanes.{worst_lane, read_response}

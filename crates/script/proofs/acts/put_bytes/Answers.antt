@@ -1,5 +1,5 @@
 -- The copied bytes are the act's.
-use Rattle.std.proofs.Common.{◌++◌, length, drop, ap, ◌∙◌, rules}
+use Rattle.std.proofs.Common.{◌++◌, length, drop, ap, ◌∙◌}
 use Rattle.script.specs.Records.{record_bytes}
 use Rattle.script.proofs.acts.put_bytes.Goals as goal
 

@@ -8,4 +8,4 @@ unfolding any_below
 loop-i-init c = refl
 
 pub loop-i-preserved : goal.loop-i-preserved
-loop-i-preserved c = any_more _ c.loop-i.i c.loop-i.found c.strays-in-found.result c.loop-i.invariant c.strays-in-found.ensures
+loop-i-preserved c = any_more _ c.loop-i.i c.loop-i.found c.strays_in-found.result c.loop-i.invariant c.strays_in-found.ensures

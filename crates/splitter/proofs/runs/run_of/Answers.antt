@@ -1,9 +1,9 @@
-use Rattle.std.proofs.Common.{◌≡◌, ℕ, ◌+◌, ◌-◌, ◌*◌, ◌/◌, ◌<◌, ◌≤◌, cond, ltb, is_some, Some, None, Option, sym, refl, ap, ◌∙◌, arith, rules}
-use Rattle.std.proofs.lemmas.Bool.{lt-ltb, le-ltb}
+use Rattle.std.proofs.Common.{◌≡◌, ℕ, ◌+◌, ◌-◌, ◌*◌, ◌/◌, ◌<◌, cond, ltb, is_some, Some, None, Option, sym, ap, ◌∙◌, arith}
+use Rattle.std.proofs.lemmas.Bool.{lt-ltb}
 use Rattle.burst.specs.declared.raw.RawBurst.{RawBurst}
 use Rattle.burst.specs.Beats.{raw_of, address_of, address_answer}
 use Rattle.splitter.specs.Runs.{turn, part_of, part_first, part_end, run_first, run_of, beat_in, least}
-use Rattle.splitter.specs.Walks.{Part, part, base_le}
+use Rattle.splitter.specs.Walks.{part, base_le}
 use Rattle.splitter.specs.Joined.{runs_stand, worked}
 use Rattle.splitter.proofs.runs.run_of.Goals as goal
 
@@ -17,8 +17,8 @@ based : (M j : ℕ) (b : RawBurst) (x : ℕ × ℕ) → x ≡ (part_first b j, p
 unfolding run_first
 based M j b x e = ap (λ y. y.0 + (j - y.0) / M * M) e
 
-pub overflow-sub-base : goal.overflow-sub-base
-overflow-sub-base c = omega (arith, (part (raw_of c.args.burst) c.args.burst.lawful c.args.j c.requires.within).low, ap (λ x. x.0) (parted (raw_of c.args.burst) c.args.j c.part-from.result c.part-from.ensures))
+pub overflow_sub-base : goal.overflow_sub-base
+overflow_sub-base c = omega (arith, (part (raw_of c.args.burst) c.args.burst.lawful c.args.j c.requires.within).low, ap (λ x. x.0) (parted (raw_of c.args.burst) c.args.j c.part-from.result c.part-from.ensures))
 
 pub unwrap-start-requires : goal.unwrap-start-requires
 unwrap-start-requires c =
@@ -29,15 +29,15 @@ unwrap-start-requires c =
     let lt : x < c.args.burst.count = omega (arith, c.requires.within) in
     ap is_some c.address.ensures ∙ ap (λ t. is_some (cond t (Some (address_of b x)) None)) (lt-ltb x c.args.burst.count lt)
 
-pub overflow-sub-rest : goal.overflow-sub-rest
-overflow-sub-rest c =
+pub overflow_sub-rest : goal.overflow_sub-rest
+overflow_sub-rest c =
     let b = raw_of c.args.burst in
     let p = part b c.args.burst.lawful c.args.j c.requires.within in
     let e = based c.args.number c.args.j b c.part-from.result (parted (raw_of c.args.burst) c.args.j c.part-from.result c.part-from.ensures) in
     omega (arith, base_le c.args.number b c.args.j c.args.burst.lawful c.requires.some c.requires.within, p.high, ap (λ x. x.1) (parted (raw_of c.args.burst) c.args.j c.part-from.result c.part-from.ensures))
 
-pub overflow-sub-result : goal.overflow-sub-result
-overflow-sub-result c =
+pub overflow_sub-result : goal.overflow_sub-result
+overflow_sub-result c =
     let b = raw_of c.args.burst in
     let e = based c.args.number c.args.j b c.part-from.result (parted (raw_of c.args.burst) c.args.j c.part-from.result c.part-from.ensures) in
     omega (arith, base_le c.args.number b c.args.j c.args.burst.lawful c.requires.some c.requires.within)

@@ -1,5 +1,5 @@
 -- The mask of the lanes so far.
-use Rattle.std.proofs.Common.{◌≡◌, ℕ, ◌+◌, ◌^◌, ◌<◌}
+use Rattle.std.proofs.Common.{◌≡◌, ◌+◌, ◌^◌, ◌<◌}
 use Rattle.burst.specs.Beats.{mask_below}
 use Rattle.workload.specs.Carried.{in_frame}
 use Rattle.workload.proofs.carry.strobe_at.Given as goal

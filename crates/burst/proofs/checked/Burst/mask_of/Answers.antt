@@ -1,4 +1,4 @@
-use Rattle.std.proofs.Common.{◌≡◌, ℕ, ◌+◌, ◌^◌, ◌<◌, ◌≤◌, sym, ap, ◌∙◌, subst, arith, pow_mono}
+use Rattle.std.proofs.Common.{◌≡◌, ◌+◌, ◌<◌, sym, ap, ◌∙◌, subst, arith, pow_mono}
 use Rattle.burst.specs.Rules.{width_bytes, kind_code}
 use Rattle.burst.specs.Beats.{raw_of, address_of, last_of, lane_mask}
 use Rattle.burst.specs.Laws.{LaneBits}
@@ -14,8 +14,8 @@ returns c =
     let w = width_bytes c.args.width in
     let fs = facts (kind_code c.args.self.kind) c.args.self.start c.args.self.size c.args.self.count c.args.self.lawful in
     let few : last_of b j < address_of b j + 8 = omega (arith, beat_few b c.args.self.lawful j, pow_mono {i = c.args.self.size} {j = 3} fs.size) in
-    let at : c.lane-mask.result ≡ lane_mask w (address_of b j) (last_of b j) =
-    c.lane-mask.ensures ∙ ap (λ n. lane_mask n c.args.first c.args.last) c.bytes.ensures.value
+    let at : c.lane_mask.result ≡ lane_mask w (address_of b j) (last_of b j) =
+    c.lane_mask.ensures ∙ ap (λ n. lane_mask n c.args.first c.args.last) c.bytes.ensures.value
     ∙ ap (λ f. lane_mask w f c.args.last) c.requires.first ∙ ap (lane_mask w (address_of b j)) c.requires.last in
     record {
       value = at;

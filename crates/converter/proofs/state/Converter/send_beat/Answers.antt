@@ -21,13 +21,13 @@ send-here-requires g c =
       few = c.bytes-bus.ensures.bound;
     }
 
-pub invariant-of-self : goal.invariant-of-self
-invariant-of-self g c =
+pub invariant_of-self : goal.invariant_of-self
+invariant_of-self g c =
     let r = c.args.self.now in
     let b = raw_of c.args.burst in
     let k = c.args.taken in
     let p : told c.step.new.self.place ≡ past b k = c.step.ensures.place ∙ ap (λ q. step_place q (Beat c.send-here.result)) c.requires.stands in
-    (step_sound (width_bytes r.width) (told r.write.place) _ b k r.writes c.requires.stands p, (r.reads, tt))
+    record { writes = step_sound (width_bytes r.width) (told r.write.place) _ b k r.writes c.requires.stands p; reads = r.reads }
 
 pub returns : goal.returns
 returns g c =

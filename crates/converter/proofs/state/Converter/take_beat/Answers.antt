@@ -21,13 +21,13 @@ fetch-word-requires g c =
       few = c.bytes-bus.ensures.bound;
     }
 
-pub invariant-of-self : goal.invariant-of-self
-invariant-of-self g c =
+pub invariant_of-self : goal.invariant_of-self
+invariant_of-self g c =
     let r = c.args.self.now in
     let b = raw_of c.args.burst in
     let k = c.args.taken in
     let p : told c.step.new.self.place ≡ past b k = c.step.ensures.place ∙ ap (λ q. step_place q (Beat c.fetch-word.result.1)) c.requires.stands in
-    (r.writes, (step_sound (width_bytes r.width) (told r.read.place) _ b k r.reads c.requires.stands p, tt))
+    record { writes = r.writes; reads = step_sound (width_bytes r.width) (told r.read.place) _ b k r.reads c.requires.stands p }
 
 pub returns : goal.returns
 returns g c =

@@ -7,5 +7,5 @@ use Rattle.fabric.proofs.waiting.Waiting.pick.Goals as goal
 
 pub returns : goal.returns
 returns c =
-    let e = c.pick.ensures.exact ∙ ap choice c.as-slice.ensures.value in
+    let e = c.pick.ensures.exact ∙ ap choice c.as_slice.ensures.value in
     record { exact = e; rule = by_rule (rows_of c.args.self.now); inside = choice_inside (rows_of c.args.self.now) c.pick.result e }

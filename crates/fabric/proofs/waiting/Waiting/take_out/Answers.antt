@@ -5,4 +5,4 @@ use Rattle.fabric.specs.Rows.{older}
 use Rattle.fabric.proofs.waiting.Waiting.take_out.Goals as goal
 
 pub returns : goal.returns
-returns c = take_at _ _ _ (search rules) ∙ c.age-all.ensures ∙ ap (map older) (c.as-mut-slice.ensures.value ∙ c.remove.ensures.items)
+returns c = take_at _ _ _ (search rules) ∙ c.age_all.ensures ∙ ap (map older) (c.as_mut_slice.ensures.value ∙ c.remove.ensures.items)

@@ -9,5 +9,5 @@ returns c = record {
   answer = (search rules, search rules, let file = c.args.file.now in let e = length-drop 8 file in take_all _ (drop 8 file) (omega arith));
 }
 
-pub returns-in-default : goal.returns-in-default
-returns-in-default c = record { law = files_parted; answer = (search rules, search rules) }
+pub returns-in_default : goal.returns-in_default
+returns-in_default c = record { law = files_parted; answer = (search rules, search rules) }

@@ -1,4 +1,4 @@
-use Rattle.std.proofs.Common.{◌≡◌, true, sym, refl, ap, ◌∙◌, subst}
+use Rattle.std.proofs.Common.{◌≡◌, true, sym, ap, ◌∙◌, subst}
 use Rattle.burst.specs.Beats.{raw_of}
 use Rattle.slave.specs.Acts.{opened}
 use Rattle.slave.specs.Meaning.{told, is_idle, stand_at}

@@ -1,4 +1,4 @@
-use Rattle.std.proofs.Common.{◌≡◌, sym, refl, ap, ◌∙◌}
+use Rattle.std.proofs.Common.{ap, ◌∙◌}
 use Rattle.slave.specs.declared.answer.Channel.TheVariants.{Write}
 use Rattle.slave.specs.declared.answer.Step.TheVariants.{Beat}
 use Rattle.slave.specs.Acts.{step_answer, step_place, step_worst}
@@ -26,7 +26,7 @@ returns-in-Ok g c =
     let given = c.in-Ok.given in
     let x = c.run_response.ensures in
     let e = c.follow.ensures in
-    let step = c.step_answer.ensures in
+    let step = c.step-answer.ensures in
     let place = step.place ∙ ap (λ y. step_place own (Beat y)) x in
     let p = gave r.number r.write.place kept (told r.read.place) (g.S.Slave.meaning r.below) c.args.word c.args.strobe
     (g.met.S.Slave.sound r.below) c.requires given c.in-Ok.ensures.answer in

@@ -1,4 +1,4 @@
-use Rattle.std.proofs.Common.{◌≡◌, sym, ap, ◌∙◌}
+use Rattle.std.proofs.Common.{sym, ap, ◌∙◌}
 use Rattle.slave.specs.Meaning.{told}
 use Rattle.splitter.specs.Splits.{run_stand, run_below}
 use Rattle.splitter.specs.ShowsLemmas.{stands_below}

@@ -1,4 +1,4 @@
-use Rattle.std.proofs.Common.{◌≡◌, Ok, sym, refl, ap, ◌∙◌}
+use Rattle.std.proofs.Common.{Ok, ap, ◌∙◌}
 use Rattle.slave.specs.declared.answer.Response.TheVariants.{Okay}
 use Rattle.slave.specs.declared.answer.Channel.TheVariants.{Read}
 use Rattle.slave.specs.declared.answer.Step.TheVariants.{Beat}
