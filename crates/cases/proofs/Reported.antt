@@ -1,10 +1,10 @@
 -- What an accepted call of the bench leaves in its buffer.
-use Rattle.std.proofs.Common.{◌≡◌, ℕ, Bool, true, false, cond, ◌&&◌, eqb, leb, List, ◌++◌, length, take, drop, Ok, Err, Result, refl, ap, ◌∙◌, arith}
+use Rattle.std.proofs.Common.{◌≡◌, ℕ, Bool, true, false, cond, ◌&&◌, eqb, leb, List, length, take, drop, Ok, Err, Result, refl, ap, ◌∙◌, arith}
 use lib.Seq.{take-append_seam}
-use Rattle.std.proofs.lemmas.Bool.{and_parts, cond-true}
+use Rattle.std.proofs.lemmas.Bool.{cond-true}
 use Rattle.bench.specs.declared.fault.BenchFault.{BenchFault}
 use Rattle.bench.specs.declared.fault.BenchFault.TheVariants.{Memory, Short}
-use Rattle.bench.specs.Runs.{accepted, bench_answer, bench_after, report_of}
+use Rattle.bench.specs.Runs.{accepted, bench_answer, bench_after, report_of, room_of}
 
 -- a count is answered where both tests are passed
 tests_passed : (a b : Bool) (l n : ℕ) → ◌≡◌ {A = Result ℕ BenchFault} (Ok n) (cond a (cond b (Ok l) (Err Short)) (Err Memory)) → (a && b ≡ true) × (n ≡ l)
@@ -14,11 +14,9 @@ tests_passed false b l n e = let z : ◌≡◌ {A = ℕ} 0 1 = cc in absurd (ome
 
 -- a count is that of the report, and the call was accepted
 pub answered : (f : List ℕ) (M room n : ℕ) → Ok n ≡ bench_answer f M room → (accepted f M room ≡ true) × (n ≡ length (report_of f))
-answered f M room n e = tests_passed (eqb M 8192) (leb (length (report_of f)) room) (length (report_of f)) n e
+answered f M room n e = tests_passed (eqb M 8192) (leb (room_of f) room) (length (report_of f)) n e
 
 -- the report stands in front
 pub in_front : (f : List ℕ) (M : ℕ) (out : List ℕ) → accepted f M (length out) ≡ true → take (length (report_of f)) (bench_after f M out) ≡ report_of f
 in_front f M out a =
-    let p = and_parts (eqb M 8192) (leb (length (report_of f)) (length out)) a in
-    ap (take (length (report_of f))) (cond-true (eqb M 8192) _ _ p.0 ∙ cond-true (leb (length (report_of f)) (length out)) _ _ p.1)
-    ∙ take-append_seam (report_of f) (drop (length (report_of f)) out)
+    ap (take (length (report_of f))) (cond-true (accepted f M (length out)) _ _ a) ∙ take-append_seam (report_of f) (drop (length (report_of f)) out)
