@@ -59,12 +59,11 @@ def declared():
 
 
 def respelled(name):
-    if "-" not in name or not re.fullmatch(r"[A-Za-z][\w'-]*", name):
+    if not re.fullmatch(r"[A-Za-z][\w'-]*", name):
         return name
-    parts = name.split("-")
     if name[0].isupper():
-        return "".join(p[0].upper() + p[1:] for p in parts if p)
-    return "_".join(parts)
+        return "".join(p[0].upper() + p[1:] for p in re.split("[-_]", name) if p)
+    return name.replace("-", "_")
 
 
 def split(p, line):

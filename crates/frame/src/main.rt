@@ -8,7 +8,7 @@ use fabric::{Act, Answer, Fabric, Outcome};
 use ram::Ram;
 use register::RegisterSlice;
 use report::Told;
-use slave::{Channel, Slave};
+use slave::Channel;
 use splitter::Splitter;
 use std::io;
 use std::io::{Read, Write};

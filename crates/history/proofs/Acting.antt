@@ -10,7 +10,7 @@ use Rattle.history.specs.Tracks.{channels_after, slave_after, act_answer, act_af
 use Rattle.history.specs.History.{History}
 use Rattle.history.specs.Bytes.{Board}
 use Rattle.history.specs.Owed.{owed, Run}
-use Rattle.history.specs.Tracks.{Tracks, Goes_on}
+use Rattle.history.specs.Tracks.{Tracks, GoesOn}
 use Rattle.history.proofs.Whole.{runs_hold}
 use Rattle.history.proofs.Quiet.{event}
 use Rattle.history.proofs.Steps.{ActStep, request_step}
@@ -39,7 +39,7 @@ act_tracks m h c s a t r c' s' x y z =
     }
 
 -- and the law holds of the longer run
-pub goes_on : Goes_on
+pub goes_on : GoesOn
 goes_on c s a r c' s' x y z = record {
   run = λ m h t. act_tracks m h c s a t r c' s' x y z;
   law = λ m h t. runs_hold m t.small (event a r ∷ h) (act_tracks m h c s a t r c' s' x y z).run;

@@ -96,7 +96,7 @@ pub record Extends (c : Channels) (s : Meaning) (a : Act) (r : Result Answer Fab
   pub law : (m : Board) (h : History) → Tracks m h c s → Holds m (record { act = a; answer = r } ∷ h)
 
 -- what an act of the fabric answers and leaves extends every run
-abbrev pub Goes_on : Type 0
-Goes_on =
+abbrev pub GoesOn : Type 0
+GoesOn =
     (c : Channels) (s : Meaning) (a : Act) (r : Result Answer FabricFault) (c' : Channels) (s' : Meaning)
     → r ≡ act_answer c s a → c' ≡ act_after c s a → s' ≡ act_slave c s a → Extends c s a r c' s'

@@ -4,7 +4,7 @@ ghost use Rattle.fabric.specs.Acts.{create_answer};
 ghost use Rattle.fabric.specs.Channels.{channels_of};
 ghost use Rattle.history.specs.Bytes.{board};
 ghost use Rattle.history.specs.Runs.{Performed, begin_answer, run_answer, run_number};
-ghost use Rattle.history.specs.Tracks.{Extends, Goes_on, Tracks, act_answer, act_after, act_slave};
+ghost use Rattle.history.specs.Tracks.{Extends, GoesOn, Tracks, act_answer, act_after, act_slave};
 
 use fabric::{Act, Answer, Fabric, FabricFault, Outcome};
 use slave::Slave;
@@ -32,7 +32,7 @@ impl RunFault {
 
 // Does nothing; its contract says that a run goes on by each act.
 fn goes_on()
-    ensures { Goes_on }
+    ensures { GoesOn }
 {}
 
 // Empties the fabric over the slave. Where that is accepted, a run begins.

@@ -7,7 +7,6 @@ mod memory;
 mod state;
 
 pub use making::check;
-use slave::Slave;
 pub use state::Ram;
 
 #[cfg(test)]
