@@ -16,7 +16,6 @@ use ram::Ram;
 use register::RegisterSlice;
 use report::write_line;
 use script::Script;
-use slave::Slave;
 use splitter::Splitter;
 
 // The bytes of the memory below the pile.

@@ -1,5 +1,5 @@
 -- What the rules say of a lawful burst, and blocks of bytes.
-use Rattle.std.proofs.Common.{◌≡◌, ℕ, ◌+◌, ◌-◌, ◌*◌, ◌/◌, ◌%◌, ◌^◌, ◌<◌, ◌≤◌, Bool, true, false, cond, ◌⊎◌, Some, None, Option, sym, refl, ap, ◌∙◌, subst, inl, inr, ⊎_elim, mul_assoc, add-mul, arith, pow_mono}
+use Rattle.std.proofs.Common.{◌≡◌, ℕ, ◌+◌, ◌-◌, ◌*◌, ◌/◌, ◌%◌, ◌^◌, ◌<◌, ◌≤◌, Bool, true, false, cond, ◌⊎◌, Some, None, Option, sym, refl, ap, ◌∙◌, subst, inl, inr, ⊎_elim, mul_assoc, add-mul, arith, pow_mono, ltb, le-ltb}
 use lib.Pow.{pow-lt}
 use Rattle.std.proofs.lemmas.Nat.{mul-le, shr_below, pow-add, div-add-mod', mod_below, pow_pos, div_below}
 use Rattle.std.proofs.lemmas.Bool.{cases_lt}
@@ -113,3 +113,24 @@ beat_in_word w b j h =
 pub some_is : {A : Type 0} (t : Bool) (v x : A) (o : Option A) → o ≡ cond t (Some v) None → o ≡ Some x → x ≡ v
 some_is true v x o e f = let g : Some v ≡ Some x = sym e ∙ f in cc
 some_is false v x o e f = let g : None ≡ Some x = sym e ∙ f in absurd (let z : ◌≡◌ {A = ℕ} 0 1 = cc in omega arith)
+
+-- size codes are in the order of their bytes
+pub code_le : (s k : ℕ) → 2 ^ s ≤ 2 ^ k → s ≤ k
+code_le s k h = ⊎_elim (λ lt. absurd (let p : 2 ^ k < 2 ^ s = pow-lt lt in omega arith)) (λ le. le) (cases_lt k s)
+
+-- a word begins at or before each of its bytes
+pub base_le : (v f : ℕ) → f / v * v ≤ f
+base_le v f = omega (arith, div-add-mod' f v)
+
+-- an INCR burst whose beats fit the width and keep to the page is lawful
+pub incr_lawful : (w a s c : ℕ) → 2 ^ s ≤ w → 0 < c → c ≤ 256 → a % 4096 + c * 2 ^ s ≤ 4096 → refusal w 1 a s c ≡ 0
+incr_lawful w a s c h l u p = grind (arith, nat_tests)
+
+second_test : (p q r : Bool) (x : ℕ) → cond p 1 (cond q 2 x) ≡ 0 → r ≡ false → cond p 1 (cond r 2 x) ≡ 0
+second_test true q r x h e = absurd (omega arith)
+second_test false true r x h e = absurd (omega arith)
+second_test false false r x h e = ap (λ t. cond t 2 x) e ∙ h
+
+-- a lawful burst is lawful for every width that its beats fit
+pub narrower : (w k a s n : ℕ) → refusal 8 k a s n ≡ 0 → 2 ^ s ≤ w → refusal w k a s n ≡ 0
+narrower w k a s n h l = second_test (ltb 2 k) (ltb 8 (2 ^ s)) (ltb w (2 ^ s)) _ h (le-ltb w (2 ^ s) l)

@@ -2,7 +2,7 @@
 use Rattle.std.proofs.Common.{◌≡◌, ℕ, zero, suc, ◌+◌, ◌-◌, ◌*◌, ◌/◌, ◌%◌, ◌^◌, ◌<◌, ◌≤◌, Bool, true, false, cond, ◌&&◌, ◌||◌, eqb, leb, sym, refl, ap, ◌∙◌, subst, ⊎_elim, add-one, arith, pow_mono}
 use native.Mathlib.Nat.{div-eq_of_lt}
 use Rattle.std.proofs.lemmas.Nat.{pow-add, mod_below, mod-mul-add, div-add-mod'}
-use Rattle.std.proofs.lemmas.Bool.{or_parts, and_parts, cases_lt, cases_eq, cases_Bool, leb-true, eqb-true, true≢false}
+use Rattle.std.proofs.lemmas.Bool.{or_from, or_parts, and_parts, cases_lt, cases_eq, cases_Bool, leb-true, eqb-true, true≢false}
 use Rattle.std.proofs.lemmas.Bool.Decides.{nat_tests}
 use Rattle.burst.specs.Beats.{bit, any_below, mask_below, lane_used, lane_mask, covers, lane_address}
 use Rattle.burst.specs.Laws.{LaneBits}
@@ -150,3 +150,15 @@ mask_covers w f l i iw i8 =
     absurd (true≢false (sym (used_by w f l (f / w * w + i) (omega (arith, iw.inside, iw.small, div-add-mod' f w)) lo hi) ∙ ap (lane_used w f l) lane ∙ n)))
     (λ c. c) (cases_Bool (covers f l (f / w * w + i)))))
     (cases_Bool (lane_used w f l i))
+
+-- where every number below n lacks p, none is found
+pub no_lane : (p : ℕ → Bool) (n : ℕ) → ((i : ℕ) → i < n → p i ≡ false) → any_below p n ≡ false
+unfolding any_below
+no_lane p zero h = refl
+no_lane p (suc n) h = or_from (any_below p n) (p n) (no_lane p n (λ i l. h i (omega arith))) (h n (omega arith))
+
+-- what holds of each of four
+pub below_4 : (P : ℕ → Type 0) → P 0 → P 1 → P 2 → P 3 → (i : ℕ) → i ≤ 3 → P i
+below_4 P p0 p1 p2 p3 i l =
+    let at : (n : ℕ) → P n → i ≡ n → P i = λ n p e. subst P (sym e) p in
+    ⊎_elim (at 0 p0) (λ n0. ⊎_elim (at 1 p1) (λ n1. ⊎_elim (at 2 p2) (λ n2. at 3 p3 (omega arith)) (cases_eq i 2)) (cases_eq i 1)) (cases_eq i 0)

@@ -12,10 +12,9 @@ use Rattle.slave.specs.Making.{ready}
 use Rattle.slave.specs.Meaning.{Meaning, idle, busy, Sound, with_read, with_write, stand_at}
 use Rattle.slave.specs.Lanes.{read_word, read_worst, write_worst, written, stray}
 use Rattle.slave.specs.Acts.{open_answer, open_after, opened, take_answer, take_after, give_answer, give_after}
-use Rattle.slave.proofs.Calls.{short_incr, open_taken, give_taken, take_taken}
+use Rattle.slave.proofs.Calls.{short_incr, open_taken, give_taken, take_taken, ready_parts}
 use Rattle.slave.proofs.Worst.{worse_right}
 use Rattle.converter.specs.Pieces.{piece_burst}
-use Rattle.converter.specs.Shared.{ready_parts}
 
 -- the beat of a piece begins at the piece
 first_is : (c a : ℕ) → address_of (piece_burst c a) 0 ≡ a

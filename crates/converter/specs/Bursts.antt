@@ -12,8 +12,8 @@ use Rattle.burst.specs.Rules.{width_bytes, kind_code, refusal}
 use Rattle.burst.specs.Beats.{address_of, last_of, wrap_address, raw_of, first_refusal}
 use Rattle.burst.proofs.Facts.{facts, size_fits, width_power}
 use Rattle.converter.specs.Pieces.{Room, Beat}
-use Rattle.converter.specs.Shared.{below_4}
 use Rattle.converter.specs.Cuts.{aligned_page}
+use Rattle.burst.proofs.Masks.{below_4}
 
 -- a multiple of 2 ^ s stays one, whole beats further
 stays_aligned : (s : ℕ) → s ≤ 3 → (a t j : ℕ) → a % 2 ^ s ≡ 0 → (a - t * 2 ^ s + j * 2 ^ s) % 2 ^ s ≡ 0

@@ -7,9 +7,9 @@ use Rattle.burst.specs.declared.raw.Width.{Width}
 use Rattle.burst.specs.declared.raw.Width.TheVariants.{One, Two, Four, Eight}
 use Rattle.burst.specs.Rules.{width_bytes}
 use Rattle.burst.specs.Beats.{last_from, first_refusal}
-use Rattle.burst.proofs.Facts.{InWord, block_in_block, width_power}
+use Rattle.burst.proofs.Facts.{InWord, block_in_block, width_power, code_le, base_le}
 use Rattle.converter.specs.Pieces.{Room, width_code, smaller, piece_end, piece_burst, Beat}
-use Rattle.converter.specs.Shared.{below_4, code_le, base_le}
+use Rattle.burst.proofs.Masks.{below_4}
 
 -- a bus has 2 to the power of its size code bytes
 pub width_is_power : (W : Width) → width_bytes W ≡ 2 ^ width_code W

@@ -7,7 +7,7 @@ use Rattle.std.proofs.lemmas.Bool.Decides.{nat_tests}
 use Rattle.std.proofs.lemmas.Nat.{mod_below}
 use Rattle.burst.specs.Beats.{bit, lane_mask, covers}
 use Rattle.burst.proofs.Facts.{InWord}
-use Rattle.burst.proofs.Masks.{bit_mask, lane_of, mask_covers}
+use Rattle.burst.proofs.Masks.{bit_mask, lane_of, mask_covers, no_lane}
 use Rattle.slave.specs.declared.answer.Response.{Response}
 use Rattle.slave.specs.declared.answer.Response.TheVariants.{Okay}
 use Rattle.slave.specs.Meaning.{Meaning, idle, with_write}
@@ -15,7 +15,6 @@ use Rattle.slave.specs.Lanes.{lane_byte, word_of, worst_lane, stray, write_respo
 use Rattle.slave.proofs.Words.{word_same, lane_word, kept_lane}
 use Rattle.slave.proofs.Worst.{worst_same}
 use Rattle.converter.specs.Spans.{spans, span_worst, span_word, wrote, wrote_at, moved_word, moved_strobe}
-use Rattle.converter.specs.Shared.{no_lane}
 use Rattle.converter.specs.Ranks.{same_cover}
 
 -- a choice on two tests, one after the other

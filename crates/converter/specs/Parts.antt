@@ -4,7 +4,7 @@ use Rattle.std.proofs.Common.{arith, sym, ◌∙◌, ap, subst, pow_mono}
 use Rattle.burst.specs.declared.raw.Width.{Width}
 use Rattle.burst.specs.Rules.{width_bytes}
 use Rattle.burst.specs.Beats.{last_from, first_refusal}
-use Rattle.burst.proofs.Facts.{InWord}
+use Rattle.burst.proofs.Facts.{InWord, base_le}
 use Rattle.slave.specs.declared.answer.Response.{Response}
 use Rattle.slave.specs.declared.answer.Response.TheVariants.{Okay}
 use Rattle.slave.specs.Making.{ready}
@@ -13,10 +13,10 @@ use Rattle.slave.specs.Lanes.{worse, stray, written, write_worst, read_word, rea
 use Rattle.slave.proofs.Words.{shown_small}
 use Rattle.converter.specs.Pieces.{Room, Beat, width_code, smaller, piece_end, piece_burst}
 use Rattle.converter.specs.Spans.{span_worst, span_word, wrote, wrote_at, moved_word, moved_strobe}
-use Rattle.converter.specs.Shared.{base_le, ready_parts}
 use Rattle.converter.specs.Cuts.{beat_word, beat_lawful, piece_beat, piece_inside, next_page, size_le, smaller_l}
 use Rattle.converter.specs.Ranks.{span_join}
 use Rattle.converter.specs.Moves.{piece_kept, piece_worst, piece_written, wrote_join, wrote_none, read_part, read_worst_spans, word_join}
+use Rattle.slave.proofs.Calls.{ready_parts}
 
 -- one piece from a to e on the bus of v bytes of the slave m
 module _ (m : Meaning) (v a e c : ℕ) (same : v ≡ m.width) (b : Beat v a e c) where

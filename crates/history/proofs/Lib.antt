@@ -3,7 +3,6 @@ pub mod Filing
 pub mod Waits
 pub mod Bound
 pub mod Beats
-pub mod Shared
 pub mod Latest
 pub mod Takes
 pub mod Forgets

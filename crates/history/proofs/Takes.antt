@@ -10,12 +10,11 @@ use Rattle.fabric.specs.declared.types.Act.TheVariants.{Request as Ask, Grant, P
 use Rattle.std.proofs.lemmas.Nat.{mod_below}
 use Rattle.slave.specs.Meaning.{ByteKind, plain, read_only, absent, unmapped, is_there}
 use Rattle.slave.specs.Lanes.{lane_byte, is_plain, shown_of}
-use Rattle.slave.proofs.Words.{lane_word}
+use Rattle.slave.proofs.Words.{lane_word, word_fits, covered_lane, lane_back}
 use Rattle.history.specs.History.{Event, History, accepted, moves, Going, burst_of, opened}
 use Rattle.history.specs.Bytes.{Board, BytesSmall, strobes, byte_in, word_in, stored, shown, word_read}
 use Rattle.history.specs.Owed.{owed, owed_take_at, take_of, Run}
 use Rattle.history.specs.Law.{Shows, TakeRight}
-use Rattle.history.proofs.Shared.{word_fits, covered_lane, lane_back}
 use Rattle.history.proofs.Beats.{Within, WithinIf, within_burst, moving_open, opened_current}
 use Rattle.history.proofs.Latest.{latest_agrees, kept_held}
 

@@ -1,6 +1,6 @@
 -- Beats of an open burst: what memory's code computes is what the calls of a slave say.
 use Rattle.std.specs.Prelude.{◌≡◌, ℕ, ◌+◌, ◌*◌, ◌/◌, ◌%◌, ◌<◌, ◌≤◌, true, false, cond, List, length, Ok, Err, vec_items, nat_lt, slice_index, refl}
-use Rattle.std.proofs.Common.{arith, sym, ◌∙◌, ap, subst, ⊎_elim}
+use Rattle.std.proofs.Common.{arith, sym, ◌∙◌, ap, ⊎_elim}
 use Rattle.std.proofs.Math.Path.{fun_ext}
 use Rattle.std.proofs.lemmas.Bool.{true≢false, lt-ltb, cases_lt}
 use Rattle.std.proofs.lemmas.List.{get_or_past}
@@ -18,7 +18,7 @@ use Rattle.slave.specs.Meaning.{Meaning, ByteKind, plain, unmapped, Stand, idle,
 use Rattle.slave.specs.Lanes.{stray, worse, worst_lane, write_response, read_word, written}
 use Rattle.slave.specs.Acts.{give_answer, give_after, take_answer, take_after, past, left, worst_after}
 use Rattle.slave.proofs.Calls.{open_left, open_lawful, give_stray, give_taken, take_taken}
-use Rattle.slave.proofs.Soundness.{dead_sound, past_sound}
+use Rattle.slave.proofs.Soundness.{dead_sound}
 use Rattle.ram.specs.declared.state.Ram.{Ram}
 use Rattle.ram.specs.Memory.{put_lanes, kind_at, loaded, loaded_worst}
 use Rattle.ram.specs.Shows.{shows, worst_at, ram_meaning}
@@ -90,10 +90,6 @@ module _ (r : Ram) (b : RawBurst) (k word s : ℕ) (live : r.live ≡ true) (sta
             ∙ ap (λ x. with_write (past b k) (cond (nat_lt (k + 1) b.count) x Okay) (written m (address_of b k) (last_of b k) word s) m) v
             ∙ sym g.1 ∙ ap (λ n. give_after n word s) (sym shown),
       )
-
--- the place that a beat leaves is sound
-pub step_sound : (w : ℕ) (p q : Stand) (b : RawBurst) (k : ℕ) → sound_stand w p ≡ true → p ≡ busy b k → q ≡ past b k → sound_stand w q ≡ true
-step_sound w p q b k h e f = subst (λ x. sound_stand w x ≡ true) (sym f) (past_sound w b k (subst (λ x. sound_stand w x ≡ true) e h))
 
 -- a take at beat k of the open burst
 module _ (r : Ram) (b : RawBurst) (k : ℕ) (live : r.live ≡ true) (stands : told r.read.place ≡ busy b k) where

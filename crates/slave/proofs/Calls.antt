@@ -10,6 +10,7 @@ use Rattle.slave.specs.declared.answer.SlaveFault.TheVariants.{Unlawful, Simple,
 use Rattle.slave.specs.Meaning.{Meaning, Stand, idle, busy, with_read, stand_at, is_idle, is_at, same_burst, sound_stand}
 use Rattle.slave.specs.Lanes.{stray}
 use Rattle.slave.specs.Acts.{on_ok, map_ok, then_ok, beat_at, past, too_much, admission, open_answer, open_after, opened, give_beat, give_answer, give_after, gave_answer, gave_after, take_answer, take_after, took_answer}
+use Rattle.slave.specs.Making.{ready}
 
 -- bursts that pass for the same are the same
 pub same_burst_is : (b c : RawBurst) → same_burst b c ≡ true → c ≡ b
@@ -145,3 +146,10 @@ give_refused m w s f h = refused_by (give_beat m s) (λ x. gave_answer m x.0 x.1
 
 pub take_refused : (m : Meaning) (f : SlaveFault) → take_answer m ≡ Err f → take_after m ≡ m
 take_refused m f h = refused_by (beat_at m.live m.read) (λ x. took_answer m x.0 x.1) m (λ x. with_read (past x.0 x.1) m) f h
+
+-- what makes a slave ready
+pub ready_parts : (m : Meaning) → ready m ≡ true → (m.live ≡ true) × (m.write ≡ idle) × (m.read ≡ idle)
+ready_parts m h =
+    let p = and_parts m.live (is_idle m.write && is_idle m.read) h in
+    let q = and_parts (is_idle m.write) (is_idle m.read) p.1 in
+    (p.0, idle_is m.write q.0, idle_is m.read q.1)

@@ -102,3 +102,7 @@ read_sound p m h l s = record {
   quiet = h.quiet;
   gone = λ d. absurd (true≢false (sym l ∙ d));
 }
+
+-- the place that a beat leaves is sound
+pub step_sound : (w : ℕ) (p q : Stand) (b : RawBurst) (k : ℕ) → sound_stand w p ≡ true → p ≡ busy b k → q ≡ past b k → sound_stand w q ≡ true
+step_sound w p q b k h e f = subst (λ x. sound_stand w x ≡ true) (sym f) (past_sound w b k (subst (λ x. sound_stand w x ≡ true) e h))

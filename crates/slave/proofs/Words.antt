@@ -1,11 +1,13 @@
 -- Words and the bytes in their lanes.
 use Rattle.std.proofs.Common.{◌≡◌, ℕ, ◌*◌, ◌%◌, ◌^◌, ◌<◌, ◌≤◌, false, not, ◌&&◌, sym, ap, ◌∙◌, arith, pow_mono}
 use native.Mathlib.Nat.{div-eq_of_lt}
-use Rattle.burst.specs.Beats.{covers, lane_address, lane_mask, bit}
-use Rattle.burst.proofs.Facts.{InWord}
-use Rattle.burst.proofs.Masks.{below_8, none_below, mask_covers}
+use Rattle.burst.specs.Beats.{covers, lane_address, lane_mask, bit, first_refusal, address_of, last_of}
+use Rattle.burst.proofs.Facts.{InWord, beat_in_word}
+use Rattle.burst.proofs.Masks.{below_8, none_below, mask_covers, lane_of}
 use Rattle.slave.specs.Meaning.{Meaning, plain, read_only, absent, unmapped, Sound}
 use Rattle.slave.specs.Lanes.{lane_byte, word_of, stray, shown, shown_of}
+use Rattle.burst.specs.declared.raw.RawBurst.{RawBurst}
+use Rattle.burst.specs.declared.raw.Width.TheVariants.{Eight}
 
 -- a word has eight lanes
 pub no_lane_byte : (w i : ℕ) → w < 2 ^ 64 → 8 ≤ i → lane_byte w i ≡ 0
@@ -36,3 +38,20 @@ shown_small m s a = elim (m.kinds a) as (λ k. shown_of k (m.bytes a) < 256) [ p
 pub kept_lane : (w f l s : ℕ) → InWord w f l → stray w f l s ≡ false → (i : ℕ) → i < 8 → (bit s i && not (covers f l (lane_address w f i))) ≡ false
 kept_lane w f l s iw h i i8 =
     ap (λ t. bit s i && not t) (sym (mask_covers w f l i iw i8)) ∙ none_below (λ k. bit s k && not (bit (lane_mask w f l) k)) 8 h i i8
+
+-- a word of eight bytes has 64 bits
+pub word_fits : (f : ℕ → ℕ) → ((k : ℕ) → k < 8 → f k < 256) → word_of f < 2 ^ 64
+word_fits f h =
+    let b0 = h 0 (omega arith) in let b1 = h 1 (omega arith) in let b2 = h 2 (omega arith) in let b3 = h 3 (omega arith) in
+    let b4 = h 4 (omega arith) in let b5 = h 5 (omega arith) in let b6 = h 6 (omega arith) in let b7 = h 7 (omega arith) in
+    omega arith
+
+-- a covered address is the one that its lane stands for
+pub covered_lane : (b : RawBurst) (j a : ℕ) → first_refusal 8 b ≡ 0 → address_of b j ≤ a → a ≤ last_of b j → lane_address 8 (address_of b j) (a % 8) ≡ a
+covered_lane b j a h lo hi =
+    let p = lane_of 8 (address_of b j) (last_of b j) a (beat_in_word Eight b j h) lo hi in
+    omega (arith, p.0, p.2)
+
+-- the address that stands for a lane has its byte there
+pub lane_back : (f i : ℕ) → i < 8 → lane_address 8 f i % 8 ≡ i
+lane_back f i l = omega arith

@@ -4,6 +4,5 @@ pub mod Laws
 pub mod Splits
 pub mod ShowsLemmas
 pub mod Walks
-pub mod Shared
 pub mod Places
 pub mod Joined

@@ -4,7 +4,7 @@ use Rattle.std.proofs.Common.{sym, ◌∙◌, ap, subst, ⊎_elim}
 use Rattle.std.proofs.lemmas.Bool.{leb-true, cases_Bool, cases_lt, lt-ltb, le-ltb, ltb-true, and_parts, and_from, true≢false}
 use Rattle.burst.specs.declared.raw.RawBurst.{RawBurst}
 use Rattle.burst.specs.Beats.{first_refusal}
-use Rattle.burst.proofs.Facts.{size_fits}
+use Rattle.burst.proofs.Facts.{size_fits, narrower}
 use Rattle.slave.specs.declared.answer.Response.TheVariants.{Okay}
 use Rattle.slave.specs.declared.answer.Channel.{Channel}
 use Rattle.slave.specs.declared.answer.Channel.TheVariants.{Write, Read}
@@ -13,7 +13,6 @@ use Rattle.slave.specs.Acts.{on_ok, opened, past}
 use Rattle.slave.proofs.Calls.{at_is, is_at_self, open_lawful}
 use Rattle.splitter.specs.Runs.{run_of, beat_in, run_answer}
 use Rattle.splitter.specs.Splits.{runs_at, on_place, numbered, fits, with_run, follow_after}
-use Rattle.splitter.specs.Shared.{narrower}
 use Rattle.splitter.specs.Walks.{next_left, next_run, next_beat, next_new}
 use Rattle.splitter.specs.Joined.{run_stands}
 

@@ -10,10 +10,9 @@ use Rattle.std.proofs.lemmas.Nat.{div-add-mod', mod_below, pow_pos}
 use Rattle.std.proofs.lemmas.Bool.{cond_both, cases_lt, cases_eq, lt-ltb, le-ltb, ltb-true, ltb-false}
 use Rattle.burst.specs.declared.raw.RawBurst.{RawBurst}
 use Rattle.burst.specs.Beats.{first_refusal, address_of, last_of, incr_address, wrap_address}
-use Rattle.burst.proofs.Facts.{Facts, facts, round_power, size_fits}
+use Rattle.burst.proofs.Facts.{Facts, facts, round_power, size_fits, incr_lawful}
 use Rattle.burst.proofs.Walks.{incr_incr, incr_page, aligned_incr, low_aligned, wrap_first, wrap_second, first_page, second_page}
 use Rattle.splitter.specs.Runs.{turn, part_of, part_first, part_end, run_first, least, run_of, beat_in}
-use Rattle.splitter.specs.Shared.{incr_lawful}
 
 -- the part F to S of a burst that beat j lies in: it goes straight on, within a page
 pub record Part (b : RawBurst) (j F S : ℕ) : Type 0 where

@@ -5,9 +5,9 @@ use Rattle.burst.proofs.Facts.{some_is}
 use Rattle.slave.specs.declared.answer.Step.TheVariants.{Beat}
 use Rattle.slave.specs.Meaning.{told}
 use Rattle.slave.specs.Acts.{past, step_answer, step_place, step_worst}
-use Rattle.converter.specs.Shared.{step_sound}
 use Rattle.converter.specs.Told.{told_beat, given}
 use Rattle.converter.proofs.state.Converter.send_beat.Goals as goal
+use Rattle.slave.proofs.Soundness.{step_sound}
 
 pub send-here-requires : goal.send-here-requires
 send-here-requires g c =

@@ -5,9 +5,9 @@ use Rattle.burst.proofs.Facts.{some_is}
 use Rattle.slave.specs.declared.answer.Step.TheVariants.{Beat}
 use Rattle.slave.specs.Meaning.{told}
 use Rattle.slave.specs.Acts.{past, left, step_place}
-use Rattle.converter.specs.Shared.{step_sound}
 use Rattle.converter.specs.Told.{told_beat, took}
 use Rattle.converter.proofs.state.Converter.take_beat.Goals as goal
+use Rattle.slave.proofs.Soundness.{step_sound}
 
 pub fetch-word-requires : goal.fetch-word-requires
 fetch-word-requires g c =

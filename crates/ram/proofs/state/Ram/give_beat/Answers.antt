@@ -11,8 +11,9 @@ use Rattle.slave.specs.Lanes.{outside, stray, worst_lane, write_response}
 use Rattle.slave.specs.Acts.{past, step_answer, step_place, step_worst}
 use Rattle.ram.specs.Memory.{put_lanes, kind_at}
 use Rattle.ram.specs.Shows.{shows}
-use Rattle.ram.specs.Beats.{given, refused, step_sound}
+use Rattle.ram.specs.Beats.{given, refused}
 use Rattle.ram.proofs.state.Ram.give_beat.Goals as goal
+use Rattle.slave.proofs.Soundness.{step_sound}
 
 pub invariant_of-self : goal.invariant_of-self
 invariant_of-self c =

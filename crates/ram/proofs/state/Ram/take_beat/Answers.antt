@@ -7,8 +7,9 @@ use Rattle.slave.specs.Meaning.{Meaning, Stand, told, dead}
 use Rattle.slave.specs.Acts.{past, left, step_place}
 use Rattle.ram.specs.Memory.{loaded, loaded_worst}
 use Rattle.ram.specs.Shows.{shows}
-use Rattle.ram.specs.Beats.{took, step_sound}
+use Rattle.ram.specs.Beats.{took}
 use Rattle.ram.proofs.state.Ram.take_beat.Goals as goal
+use Rattle.slave.proofs.Soundness.{step_sound}
 
 pub invariant_of-self : goal.invariant_of-self
 invariant_of-self c =
