@@ -42,10 +42,6 @@ acts_are f rs law o e =
     let n = ap length e in
     omega arith
 
--- at most 2,048
-pub acts_few : (f : List ℕ) → FilesParted → opens f ≡ true → (header_of f).acts ≤ 2048
-acts_few f law o = (law.parts f o).most_acts
-
 -- an image of at most 8,192 bytes
 pub image_fits : (f image : List ℕ) → FilesParted → opens f ≡ true → image ≡ image_of f → length image ≤ 8192
 image_fits f image law o e =

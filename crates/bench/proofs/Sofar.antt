@@ -9,7 +9,7 @@ use Rattle.history.specs.History.{History}
 use Rattle.history.specs.Bytes.{Board}
 use Rattle.history.specs.Tracks.{Tracks, Extends}
 use Rattle.history.proofs.Whole.{runs_hold}
-use Rattle.report.specs.declared.told.Told.{Told}
+use Rattle.report.specs.Outcomes.{Told}
 use Rattle.report.specs.Lines.{line}
 use Rattle.script.specs.declared.fault.ScriptFault.{ScriptFault}
 use Rattle.bench.specs.declared.fault.BenchFault.{BenchFault}
@@ -17,18 +17,6 @@ use Rattle.bench.specs.declared.fault.BenchFault.TheVariants.{Record}
 use Rattle.bench.specs.Outcomes.{act_at, ends, goes, lifted, told_of}
 use Rattle.bench.specs.Reports.{EndsRight, Reported, history_until, report_until, line_at}
 use Rattle.bench.proofs.Texts.{length_in_front, text_more}
-
--- an act that goes on in every run ends as is owed to it
-pub act_ends : (c : Channels) (s : Meaning) (n : ℕ) (act : Result Act ScriptFault) (a : Act) (r : Result Answer FabricFault) (r' : Result Answer BenchFault) (c' : Channels) (s' : Meaning)
-    → act ≡ Ok a → r' ≡ lifted n r → Extends c s a r c' s' → EndsRight c s n act r' c' s'
-act_ends c s n act a r r' c' s' is e x = record {
-  outcome = λ m h t. e ∙ ap (lifted n) (x.run m h t).run.0 ∙ ap (ends m h n) (sym is);
-  run = λ m h t. subst (λ (z : History). Tracks m z c' s') (ap (λ (z : Result Answer FabricFault). record { act = a; answer = z } ∷ h) (x.run m h t).run.0 ∙ ap (goes m h) (sym is)) (x.run m h t);
-}
-
--- a bad record is refused and leaves the run
-pub bad_ends : (c : Channels) (s : Meaning) (n : ℕ) (act : Result Act ScriptFault) (e : ScriptFault) → act ≡ Err e → EndsRight c s n act (Err (Record n)) c s
-bad_ends c s n act e is = record { outcome = λ m h t. ap (ends m h n) (sym is); run = λ m h t. subst (λ (z : History). Tracks m z c s) (ap (goes m h) (sym is)) t }
 
 -- nothing is done before the first record
 pub until_none : (m : Board) (records : List ℕ) → (history_until m records 0 ≡ []) × (report_until m records 0 ≡ [])

@@ -22,25 +22,7 @@ text_more t l e r r' at a x y =
     ∙ ap (λ z. t ++ (l ++ z)) (drop-append-add t (drop (length t) e) (length l) ∙ drop-drop (length l) (length t) e ∙ ap (λ k. drop k e) (sym (length-append t l)))
     ∙ sym (append_assoc t l _)
 
--- a line behind the first bytes of a buffer
-pub told_behind : (at : ℕ) (xs out l x : List ℕ) → at + 64 ≤ length xs → length l ≤ 64 → x ≡ drop at xs → out ≡ written l x
-    → put_mid at (length xs - at) xs out ≡ take at xs ++ (l ++ drop (at + length l) xs)
-told_behind at xs out l x room short is e =
-    let n = length-drop at xs in
-    let fits : leb (length l) (length (drop at xs)) ≡ true = le-leb (length l) (length (drop at xs)) (omega arith) in
-    ap (λ z. take at xs ++ (z ++ drop (length xs - at) (drop at xs))) (e ∙ ap (written l) is ∙ cond-true _ _ _ fits ∙ ap (λ z. l ++ z) (drop-drop (length l) at xs))
-    ∙ ap (λ z. take at xs ++ ((l ++ drop (at + length l) xs) ++ z)) (drop_all (length xs - at) (drop at xs) (omega arith))
-    ∙ ap (λ z. take at xs ++ z) (append-nil (l ++ drop (at + length l) xs))
-
 -- the count in an answer
 count_in : Result ℕ ReportFault → ℕ
 count_in (Ok n) = n
 count_in (Err e) = 0
-
--- the count of its bytes
-pub told_count : (at : ℕ) (xs l x : List ℕ) (r : Result ℕ ReportFault) (n : ℕ) → at + 64 ≤ length xs → length l ≤ 64 → x ≡ drop at xs → r ≡ write_answer l x → r ≡ Ok n → n ≡ length l
-unfolding count_in
-told_count at xs l x r n room short is e k =
-    let d = length-drop at xs in
-    let fits : leb (length l) (length (drop at xs)) ≡ true = le-leb (length l) (length (drop at xs)) (omega arith) in
-    ap count_in (sym k ∙ e ∙ ap (write_answer l) is ∙ cond-true _ _ _ fits)

@@ -11,9 +11,7 @@ use Rattle.history.specs.Bytes.{Board}
 use Rattle.history.specs.Owed.{owed}
 use Rattle.history.specs.Tracks.{act_answer, act_after, act_slave}
 use Rattle.report.specs.declared.told.Layer.TheVariants.{Bench}
-use Rattle.report.specs.declared.told.Told.{Told}
-use Rattle.report.specs.declared.told.Told.TheVariants.{Answer as Answered, Fault}
-use Rattle.report.specs.Outcomes.{outcome_told}
+use Rattle.report.specs.Outcomes.{Told, outcome_told}
 use Rattle.script.specs.declared.fault.ScriptFault.{ScriptFault}
 use Rattle.script.specs.declared.fault.ScriptFault.TheVariants.{Record as BadRecord}
 use Rattle.script.specs.Files.{record_at}
@@ -36,11 +34,11 @@ lifted n (Err e) = Err (Fabric n e)
 
 -- what a line tells of an outcome: a fabric's fault as the fabric's, any other as the bench's
 abbrev pub told_of : Result Answer BenchFault → Told
-told_of (Ok a) = Answered a
-told_of (Err Memory) = Fault Bench 17
-told_of (Err Header) = Fault Bench 20
-told_of (Err (Record n)) = Fault Bench 21
-told_of (Err Short) = Fault Bench 22
+told_of (Ok a) = Ok a
+told_of (Err Memory) = Err (record { layer = Bench; number = 17 })
+told_of (Err Header) = Err (record { layer = Bench; number = 20 })
+told_of (Err (Record n)) = Err (record { layer = Bench; number = 21 })
+told_of (Err Short) = Err (record { layer = Bench; number = 22 })
 told_of (Err (Fabric n e)) = outcome_told (Err e)
 
 -- the act in a record, if there is one

@@ -1,10 +1,10 @@
 // Why the bench refuses a call, a file or an act.
 ghost use Rattle.bench.specs.Outcomes.{bench_number, told_of};
-ghost use Rattle.bench.specs.declared.fault.BenchFault.TheVariants.{Fabric};
+ghost use Rattle.bench.specs.declared.fault.BenchFault.TheVariants.{Fabric, Short};
 ghost use Rattle.std.specs.Prelude.{◌≡◌};
 
-use fabric::{Answer, FabricFault, Outcome};
-use report::{Layer, Told};
+use fabric::{Answer, FabricFault};
+use report::{Layer, Refusal, ReportFault, Told};
 
 #[derive(Clone, Copy, PartialEq, Eq, Debug)]
 pub enum BenchFault {
@@ -21,7 +21,7 @@ pub enum BenchFault {
 }
 
 impl BenchFault {
-    // The number of the refusal.
+    // The number of the refusal. No discriminants: the fabric's fault has its own number.
     pub fn number(self) -> u8
         ensures { result ≡ bench_number self }
     {
@@ -43,19 +43,26 @@ impl From<(u32, FabricFault)> for BenchFault {
     }
 }
 
+// A line that does not fit is a report that does not.
+impl From<ReportFault> for BenchFault {
+    ghost from_gives = { λ e r. r ≡ Short };
+
+    fn from(fault: ReportFault) -> BenchFault {
+        match fault {
+            ReportFault::Short => BenchFault::Short,
+        }
+    }
+}
+
 // What a line tells of an act's outcome: a fabric's fault is told as the fabric's, any other as the bench's.
 pub(crate) fn told_of(outcome: Result<Answer, BenchFault>) -> Told
     ensures { result ≡ told_of outcome }
 {
-    match outcome {
-        Ok(answer) => Told::Answer(answer),
-        Err(BenchFault::Fabric(_, fault)) => {
-            let refused: Outcome = Err(fault);
-            Told::from(refused)
-        }
-        Err(fault) => Told::Fault {
+    outcome.map_err(|fault| match fault {
+        BenchFault::Fabric(_, own) => Refusal::from(own),
+        _ => Refusal {
             layer: Layer::Bench,
             number: fault.number(),
         },
-    }
+    })
 }

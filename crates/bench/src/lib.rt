@@ -8,4 +8,4 @@ mod records;
 
 pub use example::whole_case_stands;
 pub use fault::BenchFault;
-pub use pile::run;
+pub use pile::{MEMORY_BYTES, REPORT_BYTES, run};

@@ -14,15 +14,15 @@ use converter::Converter;
 use fabric::Fabric;
 use ram::Ram;
 use register::RegisterSlice;
-use report::write_line;
-use script::Script;
+use report::{LINE_BYTES, write_line};
+use script::{MOST_ACTS, Script};
 use splitter::Splitter;
 
 // The bytes of the memory below the pile.
-const MEMORY: usize = 8192;
+pub const MEMORY_BYTES: usize = 8192;
 
-// The room for a line.
-const LINE: usize = 64;
+// Room for the lines of as many acts as a script can have.
+pub const REPORT_BYTES: usize = LINE_BYTES * MOST_ACTS;
 
 // Makes memory hold an image and then zeros.
 fn load(memory: &mut [u8], image: &[u8])
@@ -45,7 +45,6 @@ fn with_image(mut memory: Vec<u8>, image: &[u8]) -> Vec<u8>
 // Runs a script over the pile on this memory: a slice over a converter of width 8 over a splitter in runs of 8 over memory of
 // width 4 that takes 8 beats at most.
 fn run_over(script: Script<'_>, memory: Vec<u8>, fabric: &mut Fabric, report: &mut [u8]) -> usize
-    requires few { length script.records.now / 24 ≤ 2048 }
     requires room { 64 * (length script.records.now / 24) ≤ length report.old }
     requires memory { vec_len memory ≡ 8192 }
     ensures count { result ≡ length (report_until (memory_board memory.items) script.entry.records.now (length script.entry.records.now / 24)) }
@@ -65,10 +64,7 @@ fn tell_header(report: &mut [u8]) -> Result<usize, BenchFault>
     ensures answer { result ≡ (if nat_le (length header_line) (length report.old) then Ok (length header_line) else Err Short) }
     ensures after { report.new ≡ (if nat_le (length header_line) (length report.old) then header_line ++ drop (length header_line) report.old else report.old) }
 {
-    match write_line(report, 0, told_of(Err(BenchFault::Header))) {
-        Ok(count) => Ok(count),
-        Err(_) => Err(BenchFault::Short),
-    }
+    Ok(write_line(report, 0, told_of(Err(BenchFault::Header)))?)
 }
 
 // Runs a script over the pile on the memory and the fabric handed in, writes the report, and answers how many bytes it has.
@@ -86,13 +82,13 @@ pub fn run(
     ensures fabric { runs file.now (vec_len memory) (length report.old) ≡ true → channels_of fabric.new ≡ channels_after (file_history file.now) }
     ensures kept { runs file.now (vec_len memory) (length report.old) ≡ false → fabric.new ≡ fabric.old }
 {
-    if memory.len() != MEMORY {
+    if memory.len() != MEMORY_BYTES {
         return Err(BenchFault::Memory);
     }
     let Ok(script) = script::open(file) else {
         return tell_header(report);
     };
-    if report.len() < LINE * script.acts() {
+    if report.len() < LINE_BYTES * script.acts() {
         return Err(BenchFault::Short);
     }
     let memory = with_image(memory, script.image());

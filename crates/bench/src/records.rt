@@ -14,24 +14,11 @@ use report::{Told, write_line};
 use script::{Script, ScriptFault, read_act};
 use slave::Slave;
 
-// The act of record i.
-fn act_at(script: Script<'_>, i: usize) -> Result<Act, ScriptFault>
-    ensures { result ≡ act_at script.entry.records.now i }
-{
-    match script.record(i) {
-        Some(record) => read_act(record),
-        None => Err(ScriptFault::Record),
-    }
-}
-
 // An outcome of the fabric with the act's number.
 fn lift(number: u32, outcome: Outcome) -> Result<Answer, BenchFault>
     ensures { result ≡ lifted number outcome }
 {
-    match outcome {
-        Ok(answer) => Ok(answer),
-        Err(fault) => Err(BenchFault::from((number, fault))),
-    }
+    outcome.map_err(|fault| BenchFault::from((number, fault)))
 }
 
 // Performs the act of a record, unless the record is bad. In a run it ends as the history before it says.
@@ -46,10 +33,8 @@ fn perform_act<S: Slave>(
     ensures slave { S.Slave.meaning slave.new ≡ record_slave (channels_of fabric.old) (S.Slave.meaning slave.old) act }
     ensures run { EndsRight (channels_of fabric.old) (S.Slave.meaning slave.old) number act result (channels_of fabric.new) (S.Slave.meaning slave.new) }
 {
-    match act {
-        Ok(act) => lift(number, history::act(fabric, slave, act)),
-        Err(_) => Err(BenchFault::Record(number)),
-    }
+    let act = act.map_err(|_| BenchFault::Record(number))?;
+    lift(number, history::act(fabric, slave, act))
 }
 
 // Writes a line behind the first `at` bytes of a report and answers where it ends.
@@ -59,28 +44,25 @@ fn tell(report: &mut [u8], at: usize, number: u32, told: Told) -> usize
     ensures most { result ≤ at + 64 }
     ensures after { report.new ≡ take at report.old ++ (line number told ++ drop (at + length (line number told)) report.old) }
 {
-    match write_line(&mut report[at..], number, told) {
-        Ok(count) => at + count,
-        Err(_) => at,
-    }
+    at + write_line(&mut report[at..], number, told).unwrap()
 }
 
-// Performs every record of a script in a run that has begun, and writes its line.
+// Performs every record of a script in a run that has begun, and writes its line. The room for the lines is asked, here
+// and above, since the report is lent and no type holds it beside the script.
 fn perform<S: Slave>(
     script: Script<'_>,
     fabric: &mut Fabric,
     slave: &mut S,
     report: &mut [u8],
 ) -> usize
-    requires few { length script.records.now / 24 ≤ 2048 }
     requires room { 64 * (length script.records.now / 24) ≤ length report.old }
     requires run { Tracks (board (S.Slave.meaning slave.old)) [] (channels_of fabric.old) (S.Slave.meaning slave.old) }
     ensures { Reported (board (S.Slave.meaning slave.old)) script.entry.records.now (length script.entry.records.now / 24) report.old report.new result (channels_of fabric.new) (S.Slave.meaning slave.new) }
 {
     let mut at = 0;
-    for i in 0..script.acts() {
+    for (i, record) in script.records().iter().enumerate() {
         let number = i as u32 + 1;
-        let outcome = perform_act(fabric, slave, number, act_at(script, i));
+        let outcome = perform_act(fabric, slave, number, read_act(record));
         at = tell(report, at, number, told_of(outcome));
     }
     at
@@ -93,13 +75,10 @@ pub(crate) fn run_script<S: Slave>(
     slave: &mut S,
     report: &mut [u8],
 ) -> usize
-    requires few { length script.records.now / 24 ≤ 2048 }
     requires room { 64 * (length script.records.now / 24) ≤ length report.old }
     requires fits { fits_below (S.Slave.meaning slave.old) ≡ true }
     ensures { Reported (board (S.Slave.meaning slave.old)) script.entry.records.now (length script.entry.records.now / 24) report.old report.new result (channels_of fabric.new) (S.Slave.meaning slave.new) }
 {
-    match history::begin(fabric, slave) {
-        Ok(()) => perform(script, fabric, slave, report),
-        Err(_) => 0,
-    }
+    history::begin(fabric, slave).unwrap();
+    perform(script, fabric, slave, report)
 }

@@ -1,5 +1,5 @@
 -- What the rules say of a lawful burst, and blocks of bytes.
-use Rattle.std.proofs.Common.{◌≡◌, ℕ, ◌+◌, ◌-◌, ◌*◌, ◌/◌, ◌%◌, ◌^◌, ◌<◌, ◌≤◌, Bool, true, false, cond, ◌⊎◌, Some, None, Option, sym, refl, ap, ◌∙◌, subst, inl, inr, ⊎_elim, mul_assoc, add-mul, arith, pow_mono, ltb, le-ltb}
+use Rattle.std.proofs.Common.{◌≡◌, ℕ, ◌+◌, ◌-◌, ◌*◌, ◌/◌, ◌%◌, ◌^◌, ◌<◌, ◌≤◌, Bool, true, false, cond, ◌⊎◌, sym, refl, ap, ◌∙◌, subst, inl, inr, ⊎_elim, mul_assoc, add-mul, arith, pow_mono, ltb, le-ltb}
 use lib.Pow.{pow-lt}
 use Rattle.std.proofs.lemmas.Nat.{mul-le, shr_below, pow-add, div-add-mod', mod_below, pow_pos, div_below}
 use Rattle.std.proofs.lemmas.Bool.{cases_lt}
@@ -80,6 +80,12 @@ width_power Two = (1, omega arith, refl)
 width_power Four = (2, omega arith, refl)
 width_power Eight = (3, omega arith, refl)
 
+pub width_some : (w : Width) → 0 < width_bytes w
+width_some One = omega arith
+width_some Two = omega arith
+width_some Four = omega arith
+width_some Eight = omega arith
+
 pub size_fits : (w k a s n : ℕ) → refusal w k a s n ≡ 0 → 2 ^ s ≤ w
 size_fits w k a s n h = grind (arith, nat_tests)
 
@@ -108,11 +114,6 @@ beat_in_word w b j h =
     let n : 2 ^ b.size ≤ width_bytes w = size_fits (width_bytes w) b.kind b.start b.size b.count h in
     subst (λ x. InWord x (address_of b j) (last_from (address_of b j) (2 ^ b.size))) (sym p.2)
     (in_word p.0 b.size (address_of b j) p.1 (subst (λ x. 2 ^ b.size ≤ x) p.2 n))
-
--- what an answer tells where there is one
-pub some_is : {A : Type 0} (t : Bool) (v x : A) (o : Option A) → o ≡ cond t (Some v) None → o ≡ Some x → x ≡ v
-some_is true v x o e f = let g : Some v ≡ Some x = sym e ∙ f in cc
-some_is false v x o e f = let g : None ≡ Some x = sym e ∙ f in absurd (let z : ◌≡◌ {A = ℕ} 0 1 = cc in omega arith)
 
 -- size codes are in the order of their bytes
 pub code_le : (s k : ℕ) → 2 ^ s ≤ 2 ^ k → s ≤ k

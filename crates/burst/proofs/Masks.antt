@@ -7,11 +7,10 @@ use Rattle.std.proofs.lemmas.Bool.Decides.{nat_tests}
 use Rattle.burst.specs.Beats.{bit, any_below, mask_below, lane_used, lane_mask, covers, lane_address}
 use Rattle.burst.specs.Laws.{LaneBits}
 use Rattle.burst.proofs.Facts.{InWord}
-
--- one number more
-pub any_more : (p : ℕ → Bool) (i : ℕ) (found here : Bool) → found ≡ any_below p i → here ≡ p i → (found || here) ≡ any_below p (i + 1)
-unfolding any_below
-any_more p i found here e f = rw add-one (ap (λ x. x || here) e ∙ ap (λ x. any_below p i || x) f)
+use Rattle.std.specs.Bool.{MatchBool}
+use Rattle.std.specs.List.{range_with_len, HoldsAt, AllWithin}
+use Rattle.std.proofs.Common.{length}
+use Rattle.std.proofs.lemmas.List.FromFn.{length-range_with_len, get_or-range_with_len}
 
 -- where no number below n has p, each lacks it
 pub none_below : (p : ℕ → Bool) (n : ℕ) → any_below p n ≡ false → (i : ℕ) → i < n → p i ≡ false
@@ -162,3 +161,11 @@ pub below_4 : (P : ℕ → Type 0) → P 0 → P 1 → P 2 → P 3 → (i : ℕ)
 below_4 P p0 p1 p2 p3 i l =
     let at : (n : ℕ) → P n → i ≡ n → P i = λ n p e. subst P (sym e) p in
     ⊎_elim (at 0 p0) (λ n0. ⊎_elim (at 1 p1) (λ n1. ⊎_elim (at 2 p2) (λ n2. at 3 p3 (omega arith)) (cases_eq i 2)) (cases_eq i 1)) (cases_eq i 0)
+
+-- what a search over the eight lanes finds
+pub any_found : (p : ℕ → Bool) (r : Bool) → MatchBool r ((k : ℕ) × (k < length (range_with_len 0 8)) × HoldsAt (λ x. x < 8 → p x ≡ true) (range_with_len 0 8) k) (AllWithin (λ x. x < 8 → p x ≡ false) (range_with_len 0 8) 0 (length (range_with_len 0 8))) → r ≡ any_below p 8
+any_found p true (k, l, at) =
+    let kl : k < 8 = subst (λ n. k < n) (length-range_with_len 0 8) l in
+    sym (has_below p 8 k kl (subst (λ x. x < 8 → p x ≡ true) (get_or-range_with_len 0 8 k 0 kl ∙ (let z : 0 + k ≡ k = omega arith in z)) (at 0) kl))
+any_found p false none =
+    sym (no_lane p 8 (λ i il. subst (λ x. x < 8 → p x ≡ false) (get_or-range_with_len 0 8 i 0 il ∙ (let z : 0 + i ≡ i = omega arith in z)) (none i 0 (omega arith) (subst (λ n. i < n) (sym (length-range_with_len 0 8)) il)) il))

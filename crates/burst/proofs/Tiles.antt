@@ -4,7 +4,8 @@ use Rattle.std.proofs.lemmas.Nat.{div-add-mod', mod_below, pow_pos, div-mul-add,
 use Rattle.std.proofs.lemmas.Bool.{eq-eqb, ne_eqb, cond-true, cond-false, cases_lt, cases_eq, and_parts, leb-true}
 use Rattle.std.proofs.lemmas.Bool.Decides.{nat_tests}
 use Rattle.burst.specs.declared.raw.RawBurst.{RawBurst}
-use Rattle.burst.specs.Beats.{first_refusal, address_of, last_of, incr_address, wrap_address, container, turn_of, covers, span_of}
+use Rattle.burst.specs.declared.raw.Cover.{Cover}
+use Rattle.burst.specs.Beats.{container_of, first_refusal, address_of, last_of, incr_address, wrap_address, container, turn_of, covers, span_of}
 use Rattle.burst.specs.Laws.{covered, Once, BeatsLie}
 use Rattle.burst.proofs.Facts.{more, Facts, facts, round_power}
 use Rattle.burst.proofs.Walks.{incr_aligned, before_below, start_is, wrap_first, wrap_second, low_page}
@@ -228,18 +229,18 @@ module _ (b : RawBurst) (lawful : first_refusal 8 b ≡ 0) where
       (cases_eq b.kind 1)) (cases_eq b.kind 0)
 
   -- the span by the kind
-  span_wrap : b.kind ≡ 2 → span_of b ≡ (container a0 (n * N), container a0 (n * N) + n * N - 1)
+  span_wrap : b.kind ≡ 2 → span_of b ≡ container_of b
   span_wrap k = cond-true (eqb b.kind 2) _ _ (eq-eqb b.kind 2 k)
 
-  span_else : (b.kind ≡ 2 → ⊥) → span_of b ≡ (a0, last_of b (n - 1))
+  span_else : (b.kind ≡ 2 → ⊥) → span_of b ≡ record { first = a0; last = last_of b (n - 1) }
   span_else k = cond-false (eqb b.kind 2) _ _ (ne_eqb b.kind 2 k)
 
   whole : b.kind ≡ 2 → 0 < n * N
   whole k = omega (arith, more 0 n N known.low, pos)
 
-  span_within : (j a : ℕ) → j < n → covered b j a ≡ true → ((span_of b).0 ≤ a) × (a ≤ (span_of b).1)
+  span_within : (j a : ℕ) → j < n → covered b j a ≡ true → ((span_of b).first ≤ a) × (a ≤ (span_of b).last)
   span_within j a h c =
-      let P : ℕ × ℕ → Type 0 = λ s. (s.0 ≤ a) × (a ≤ s.1) in
+      let P : Cover → Type 0 = λ s. (s.first ≤ a) × (a ≤ s.last) in
       let p = between (address_of b j) (last_of b j) a c in
       ⊎_elim
       (λ k. subst P (sym (span_wrap k)) (let q = wrap_within k j a h c in (q.0, omega (arith, q.1, whole k))))
@@ -249,14 +250,14 @@ module _ (b : RawBurst) (lawful : first_refusal 8 b ≡ 0) where
       (cases_eq b.kind 0)))
       (cases_eq b.kind 2)
 
-  span_once : (b.kind ≡ 0 → ⊥) → (a : ℕ) → (span_of b).0 ≤ a → a ≤ (span_of b).1 → Once b a
+  span_once : (b.kind ≡ 0 → ⊥) → (a : ℕ) → (span_of b).first ≤ a → a ≤ (span_of b).last → Once b a
   span_once n0 a lo hi =
       ⊎_elim
-      (λ k. let l : container a0 (n * N) ≤ a = subst (λ s. s.0 ≤ a) (span_wrap k) lo in
-      let u : a ≤ container a0 (n * N) + n * N - 1 = subst (λ s. a ≤ s.1) (span_wrap k) hi in
+      (λ k. let l : container a0 (n * N) ≤ a = subst (λ s. s.first ≤ a) (span_wrap k) lo in
+      let u : a ≤ container a0 (n * N) + n * N - 1 = subst (λ s. a ≤ s.last) (span_wrap k) hi in
       wrap_once k a l (omega (arith, whole k)))
       (λ n2. let k : b.kind ≡ 1 = omega (arith, known.kind) in
-      incr_once k a (subst (λ s. s.0 ≤ a) (span_else n2) lo) (subst (λ s. a ≤ s.1) (span_else n2) hi))
+      incr_once k a (subst (λ s. s.first ≤ a) (span_else n2) lo) (subst (λ s. a ≤ s.last) (span_else n2) hi))
       (cases_eq b.kind 2)
 
   pub beats_lie : BeatsLie b

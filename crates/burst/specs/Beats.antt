@@ -2,6 +2,7 @@
 use Rattle.std.specs.Prelude.{ℕ, zero, suc, ◌+◌, ◌-◌, ◌*◌, ◌/◌, ◌%◌, ◌^◌, Bool, false, cond, ◌&&◌, ◌||◌, Some, None, Ok, Err, Option, Result, ◌==◌, nat_le, nat_lt}
 use Rattle.burst.specs.declared.raw.BurstFault.{BurstFault}
 use Rattle.burst.specs.declared.raw.RawBurst.{RawBurst}
+use Rattle.burst.specs.declared.raw.Cover.{Cover}
 use Rattle.burst.specs.declared.checked.Burst.{Burst}
 use Rattle.burst.specs.Rules.{kind_code, fault_number, refusal}
 
@@ -14,8 +15,8 @@ abbrev pub first_refusal : ℕ → RawBurst → ℕ
 first_refusal w r = refusal w r.kind r.start r.size r.count
 
 -- the number that an answer of a check stands for, 0 where the burst is lawful
-abbrev pub answered : Result Burst BurstFault → ℕ
-answered (Ok b) = 0
+abbrev pub answered : {A : Type 0} → Result A BurstFault → ℕ
+answered (Ok x) = 0
 answered (Err e) = fault_number e
 
 -- INCR: beat 0 is at the start a, and beat j at floor(a / N) × N + j × N
@@ -52,20 +53,24 @@ last_of b j = last_from (address_of b j) (2 ^ b.size)
 abbrev pub address_answer : RawBurst → ℕ → Option ℕ
 address_answer b j = cond (nat_lt j b.count) (Some (address_of b j)) None
 
--- the first and the last byte of beat j, none from the count on
-abbrev pub cover_answer : RawBurst → ℕ → Option (ℕ × ℕ)
-cover_answer b j = cond (nat_lt j b.count) (Some (address_of b j, last_of b j)) None
+-- the bytes that beat j covers, none from the count on
+abbrev pub cover_answer : RawBurst → ℕ → Option Cover
+cover_answer b j = cond (nat_lt j b.count) (Some (record { first = address_of b j; last = last_of b j })) None
 
 -- whether the address a lies between f and l
 abbrev pub covers : ℕ → ℕ → ℕ → Bool
 covers f l a = nat_le f a && nat_le a l
 
--- the first and the last byte of the span that the beats lie in: the container of a WRAP burst
-abbrev pub span_of : RawBurst → ℕ × ℕ
-span_of b =
-    cond (b.kind == 2)
-    (container b.start (b.count * 2 ^ b.size), container b.start (b.count * 2 ^ b.size) + b.count * 2 ^ b.size - 1)
-    (b.start, last_of b (b.count - 1))
+-- the container that a WRAP burst goes round in
+abbrev pub container_of : RawBurst → Cover
+container_of b = record {
+  first = container b.start (b.count * 2 ^ b.size);
+  last = container b.start (b.count * 2 ^ b.size) + b.count * 2 ^ b.size - 1;
+}
+
+-- the span that the beats lie in: the container of a WRAP burst
+abbrev pub span_of : RawBurst → Cover
+span_of b = cond (b.kind == 2) (container_of b) (record { first = b.start; last = last_of b (b.count - 1) })
 
 -- bit i of a number
 abbrev pub bit : ℕ → ℕ → Bool

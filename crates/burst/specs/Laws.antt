@@ -26,9 +26,9 @@ pub record BeatsLie (b : RawBurst) : Type 0 where
   -- the beats of an INCR burst go on, each right behind the one before
   pub order : b.kind ≡ 1 → (j : ℕ) → j + 1 < b.count → address_of b (j + 1) ≡ last_of b j + 1
   -- no beat leaves the span
-  pub within : (j a : ℕ) → j < b.count → covered b j a ≡ true → ((span_of b).0 ≤ a) × (a ≤ (span_of b).1)
+  pub within : (j a : ℕ) → j < b.count → covered b j a ≡ true → ((span_of b).first ≤ a) × (a ≤ (span_of b).last)
   -- the beats of an INCR burst cover its range exactly once, those of a WRAP burst its container
-  pub once : (b.kind ≢ 0) → (a : ℕ) → (span_of b).0 ≤ a → a ≤ (span_of b).1 → Once b a
+  pub once : (b.kind ≢ 0) → (a : ℕ) → (span_of b).first ≤ a → a ≤ (span_of b).last → Once b a
 
 -- bit i of a mask is set exactly if a byte from f to l travels in lane i of a bus of w bytes
 pub record LaneBits (w f l mask : ℕ) : Type 0 where

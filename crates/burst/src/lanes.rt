@@ -1,87 +1,84 @@
 // The lanes that a beat uses on a bus.
-ghost use Rattle.std.specs.Prelude.{◌≡◌, ℕ, ◌+◌, ◌%◌, ◌^◌, ◌<◌, ◌≤◌, ◌&&◌, IfSome, if◌then◌else◌, ◌==◌, nat_le};
+ghost use Rattle.std.specs.Prelude.{◌≡◌, ℕ, ◌^◌, ◌<◌, ◌≤◌, Bool, IfSome, if◌then◌else◌};
 ghost use Rattle.burst.specs.Rules.{width_bytes};
-ghost use Rattle.burst.specs.Beats.{raw_of, address_of, last_of, lane_mask, lane_used, lanes_answer, bit};
+ghost use Rattle.burst.specs.Beats.{raw_of, address_of, last_of, lane_mask, lane_used, lanes_answer, any_below, mask_below, bit};
 ghost use Rattle.burst.specs.Laws.{LaneBits};
 
 use crate::checked::Burst;
-use crate::raw::Width;
+use crate::raw::{Cover, Width};
+
+// The lanes of the widest bus.
+pub const LANES: u8 = 8;
 
 // Whether bit i of a strobe or a lane mask is set; none is from 8 on.
 pub fn strobed(mask: u8, i: u8) -> bool
     ensures { result ≡ bit mask i }
 {
-    if i >= 8 {
+    if i >= LANES {
         return false;
     }
     (mask >> i) % 2 == 1
 }
 
-// Whether a byte is not behind the last one of a beat, and travels in this lane.
-fn travels(address: u64, last: u64, bus: u32, lane: u8) -> bool
-    requires { 0 < bus }
-    ensures { result ≡ (nat_le address last && address % bus == lane) }
-{
-    address <= last && address % u64::from(bus) == u64::from(lane)
-}
-
-// Whether one of the bytes first to last travels in this lane.
-fn lane_used(first: u32, last: u32, bus: u32, lane: u8) -> bool
-    requires { 0 < bus }
-    ensures { result ≡ lane_used bus first last lane }
-{
-    let low = u64::from(first);
-    let high = u64::from(last);
-    let mut used = false;
-    for k in 0..8u64 {
-        used |= travels(low + k, high, bus, lane);
-    }
-    used
-}
-
-// The bit of a lane where one of the bytes first to last travels in it, else 0.
-fn lane_bit(first: u32, last: u32, bus: u32, lane: u8) -> u8
-    requires few { lane < 8 }
-    requires nonzero { 0 < bus }
-    ensures value { result ≡ (if lane_used bus first last lane then 2 ^ lane else 0) }
+// The bit of a lane where it is used, else 0.
+fn lane_bit(used: bool, lane: u8) -> u8
+    requires { lane < 8 }
+    ensures value { result ≡ (if used then 2 ^ lane else 0) }
     ensures bound { result ≤ 2 ^ lane }
 {
-    if lane_used(first, last, bus, lane) {
-        1 << lane
-    } else {
-        0
-    }
+    u8::from(used) << lane
 }
 
-// The lanes that a beat covering first to last uses, a bit for each.
-fn lane_mask(first: u32, last: u32, bus: u32) -> u8
-    requires { 0 < bus }
-    ensures { result ≡ lane_mask bus first last }
+// The mask with a bit for each lane that passes a test. A `for` and no `sum`: that the bits fit a byte is the loop's
+// invariant, and a sum would want it told beforehand of what the closure answers.
+pub fn mask_of<F: Fn(u8) -> bool>(test: F) -> u8
+    requires { F.IsAlwaysCallable test }
+    ensures { (p : ℕ → Bool) → ((i : ℕ) (b : Bool) → i < 8 → F.post test i b → b ≡ p i) → result ≡ mask_below p 8 }
 {
-    let mut mask = 0u8;
-    for i in 0..8u8 {
-        mask += lane_bit(first, last, bus, i);
+    let mut mask = 0;
+    for i in 0..LANES {
+        mask += lane_bit(test(i), i);
     }
     mask
 }
 
-impl Burst {
-    // The lanes of beat j, which covers first to last.
-    fn mask_of(self, j: u16, first: u32, last: u32, width: Width) -> u8
-        requires first { first ≡ address_of (raw_of self) j }
-        requires last { last ≡ last_of (raw_of self) j }
-        ensures value { result ≡ lane_mask (width_bytes width) (address_of (raw_of self) j) (last_of (raw_of self) j) }
-        ensures bits { LaneBits (width_bytes width) (address_of (raw_of self) j) (last_of (raw_of self) j) result }
+// Whether some lane passes a test.
+pub fn any_lane<F: Fn(u8) -> bool>(test: F) -> bool
+    requires { F.IsAlwaysCallable test }
+    ensures { (p : ℕ → Bool) → ((i : ℕ) (b : Bool) → i < 8 → F.post test i b → b ≡ p i) → result ≡ any_below p 8 }
+{
+    (0..LANES).any(|i| test(i))
+}
+
+impl Cover {
+    // Whether one of the bytes, which are eight at most, travels in this lane of a bus.
+    fn uses(self, width: Width, lane: u8) -> bool
+        ensures { result ≡ lane_used (width_bytes width) self.first self.last lane }
     {
-        lane_mask(first, last, width.bytes())
+        let first = u64::from(self.first);
+        let last = u64::from(self.last);
+        let bus = u64::from(width.bytes());
+        any_lane(|k| {
+            let address = first + u64::from(k);
+            address <= last && address % bus == u64::from(lane)
+        })
     }
 
+    // The lanes that the bytes use on a bus, a bit for each.
+    fn lanes(self, width: Width) -> u8
+        ensures { result ≡ lane_mask (width_bytes width) self.first self.last }
+    {
+        mask_of(|i| self.uses(width, i))
+    }
+}
+
+impl Burst {
     // The lanes that beat j uses on a bus of this width, a bit for each; none from the count on.
     pub fn lanes(self, j: u16, width: Width) -> Option<u8>
         ensures answer { result ≡ lanes_answer (width_bytes width) (raw_of self) j }
         ensures bits { IfSome result (LaneBits (width_bytes width) (address_of (raw_of self) j) (last_of (raw_of self) j)) }
     {
-        let (first, last) = self.cover(j)?;
-        Some(self.mask_of(j, first, last, width))
+        let cover = self.cover(j)?;
+        Some(cover.lanes(width))
     }
 }

@@ -11,9 +11,9 @@ mod span;
 
 pub use checked::Burst;
 pub use edges::edges_stand;
-pub use lanes::strobed;
-pub use raw::{BurstFault, BurstKind, RawBurst, Width};
-pub use rules::check;
+pub use lanes::{LANES, any_lane, mask_of, strobed};
+pub use raw::{BurstFault, BurstKind, Cover, RawBurst, Width};
+pub use rules::{MOST_BEATS, PAGE, check};
 
 #[cfg(test)]
 mod tests {
@@ -30,17 +30,11 @@ mod tests {
     }
 
     fn refusal(raw: RawBurst, width: Width) -> u8 {
-        match check(raw, width) {
-            Ok(_) => 0,
-            Err(e) => e.number(),
-        }
+        check(raw, width).map_or_else(|fault| fault.number(), |_| 0)
     }
 
-    fn cover(raw: RawBurst, j: u16) -> Option<(u32, u32)> {
-        match check(raw, Width::Eight) {
-            Ok(b) => b.cover(j),
-            Err(_) => None,
-        }
+    fn cover(raw: RawBurst, j: u16) -> Option<Cover> {
+        check(raw, Width::Eight).ok()?.cover(j)
     }
 
     #[test]
@@ -64,13 +58,22 @@ mod tests {
 
     #[test]
     fn covers(rt: HostRuntime) {
-        assert_eq!(rt; cover(asked(1, 1, 2, 3), 1), Some((4, 7)));
+        assert_eq!(rt;
+            cover(asked(1, 1, 2, 3), 1),
+            Some(Cover { first: 4, last: 7 })
+        );
         assert_eq!(rt; cover(asked(1, 1, 2, 3), 3), None);
         assert_eq!(rt;
             cover(asked(2, 0xffff_fff8, 2, 4), 2),
-            Some((0xffff_fff0, 0xffff_fff3))
+            Some(Cover {
+                first: 0xffff_fff0,
+                last: 0xffff_fff3
+            })
         );
-        assert_eq!(rt; cover(asked(0, 3, 1, 2), 1), Some((3, 3)));
+        assert_eq!(rt;
+            cover(asked(0, 3, 1, 2), 1),
+            Some(Cover { first: 3, last: 3 })
+        );
     }
 
     #[test]
@@ -81,7 +84,7 @@ mod tests {
         assert_eq!(rt; b.lanes(0, Width::Four), Some(0x0e));
         assert_eq!(rt; b.lanes(1, Width::Eight), Some(0xf0));
         assert_eq!(rt; b.lanes(1, Width::Two), Some(0x03));
-        assert_eq!(rt; b.span(), (1, 11));
+        assert_eq!(rt; b.span(), Cover { first: 1, last: 11 });
         Ok(())
     }
 }

@@ -4,14 +4,9 @@
 ghost use Rattle.bench.specs.Runs.{accepted, bench_after, report_of};
 ghost use Rattle.std.specs.Prelude.{◌≡◌, true, false, length, vec_len, Decides};
 
+use bench::{MEMORY_BYTES, REPORT_BYTES};
 use fabric::Fabric;
 use std::fs;
-
-// The bytes of the memory below the pile.
-const MEMORY_BYTES: usize = 8192;
-
-// Room for the lines of 2,048 acts.
-const REPORT_BYTES: usize = 131_072;
 
 // Whether two texts are the same.
 fn same(a: &[u8], b: &[u8]) -> bool
@@ -26,30 +21,31 @@ fn agrees(file: &[u8], report: &[u8], memory: Vec<u8>, fabric: &mut Fabric, out:
     ensures refused { accepted file.now (vec_len memory) (length out.old) ≡ false → result ≡ false }
     ensures after { out.new ≡ bench_after file.now (vec_len memory) out.old }
 {
-    match bench::run(file, memory, fabric, out) {
-        Ok(count) => same(&out[0..count], report),
-        Err(_) => false,
-    }
+    let Ok(count) = bench::run(file, memory, fabric, out) else {
+        return false;
+    };
+    same(&out[..count], report)
 }
 
 fn main(rt: HostRuntime) -> anyhow::Result<()> {
     let heap = rt.alloc();
     let names = fs::read_to_string(&rt, "names")?;
     let mut out = vec![in heap; 0u8; REPORT_BYTES]?;
-    let mut agree = 0u32;
-    let mut differ = 0u32;
+    let mut differing = Vec::new(heap);
     for name in names.lines() {
         let file = fs::read(&rt, format!(in heap; "{name}.script")?)?;
         let report = fs::read(&rt, format!(in heap; "{name}.report")?)?;
         let memory = vec![in heap; 0u8; MEMORY_BYTES]?;
         let mut fabric = Fabric::new(heap)?;
-        if agrees(&file, &report, memory, &mut fabric, &mut out) {
-            agree = agree.saturating_add(1);
-        } else {
-            println!(rt; "differs: {name}")?;
-            differ = differ.saturating_add(1);
+        if !agrees(&file, &report, memory, &mut fabric, &mut out) {
+            differing.push(name)?;
         }
     }
+    for name in &differing {
+        println!(rt; "differs: {name}")?;
+    }
+    let differ = differing.len();
+    let agree = names.lines().count().saturating_sub(differ);
     println!(rt; "{agree} agree, {differ} differ")?;
     Ok(())
 }

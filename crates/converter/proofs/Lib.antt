@@ -1,3 +1,10 @@
+pub mod Cuts
+pub mod Left
+pub mod Bursts
+pub mod Ranks
+pub mod Moves
 pub mod One
-pub mod Runs
+pub mod Parts
 pub mod Order
+pub mod Walk
+pub mod Told

@@ -1,6 +1,5 @@
 -- The pieces of a beat cover its bytes once and in order, and none is refused below.
-use Rattle.std.proofs.Common.{◌≡◌, ℕ, zero, suc, ◌+◌, ◌*◌, ◌/◌, ◌<◌, ◌≤◌, true, false, cond, ltb, List, [], ◌∷◌, Ok, sym, refl, ap, ◌∙◌, subst, arith}
-use Rattle.std.proofs.lemmas.Bool.{cond_both, ltb-true, ltb-false}
+use Rattle.std.proofs.Common.{◌≡◌, ℕ, ◌+◌, ◌*◌, ◌/◌, ◌≤◌, true, false, cond, List, [], ◌∷◌, Ok, sym, refl, ap, ◌∙◌, subst, arith}
 use Rattle.std.proofs.lemmas.Bool.Decides.{nat_tests}
 use Rattle.burst.specs.declared.raw.Width.{Width}
 use Rattle.burst.specs.declared.raw.Width.TheVariants.{Eight}
@@ -14,42 +13,15 @@ use Rattle.slave.specs.Acts.{open_after, give_answer, give_after, take_answer, t
 use Rattle.burst.proofs.Facts.{InWord}
 use Rattle.slave.specs.Lanes.{stray, write_worst, read_word, read_worst}
 use Rattle.slave.specs.declared.answer.Given.TheVariants.{Done}
-use Rattle.converter.specs.Pieces.{Beat, width_code, smaller, piece_end, pieces_from, pieces, piece_burst, InOrder, hits, Each}
+use Rattle.converter.specs.Pieces.{Beat, pieces_from, piece_burst, InOrder, hits, Each}
 use Rattle.converter.specs.Spans.{moved_word, moved_strobe}
 use Rattle.converter.specs.Laws.{Taken, PiecesLie, pieces_of, code_below}
-use Rattle.converter.specs.Cuts.{beat_word, eight}
-use Rattle.converter.specs.Moves.{piece_kept}
+use Rattle.converter.proofs.Cuts.{beat_word}
+use Rattle.converter.proofs.Moves.{piece_kept}
 use Rattle.converter.proofs.One.{opened_one, read_answer, write_answer}
-use Rattle.converter.specs.Bursts.{beat_of}
-use Rattle.converter.specs.Parts.{Todo, first_todo, next_beat, next_inside, next_order, next_todo, part_lawful}
-
--- what is left of a beat goes down in order
-in_order_from : (n w f l s c a : ℕ) (V : Width) → Todo w f l s a c (width_bytes V) V → l < a + n → InOrder (width_bytes V) c l (pieces_from n (width_bytes V) l a) a
-unfolding pieces_from
-in_order_from zero w f l s c a V t ln = absurd (let h = t.high in omega arith)
-in_order_from (suc n) w f l s c a V t ln =
-    let v : ℕ = width_bytes V in
-    let order : a ≤ piece_end (width_bytes V) l a = next_order w f l s a c (width_bytes V) V t (piece_end (width_bytes V) l a) refl in
-    let inside : piece_end (width_bytes V) l a ≤ l = next_inside w f l s a c (width_bytes V) V t (piece_end (width_bytes V) l a) refl in (
-      refl,
-      next_beat w f l s a c (width_bytes V) V t (piece_end (width_bytes V) l a) refl,
-      cond_both (ltb (piece_end (width_bytes V) l a) l) (pieces_from n (width_bytes V) l (piece_end (width_bytes V) l a + 1)) [] (λ ps. InOrder (width_bytes V) c l ps (piece_end (width_bytes V) l a + 1))
-          (λ x. let lt : piece_end (width_bytes V) l a < l = ltb-true (piece_end (width_bytes V) l a) l x in
-          in_order_from n w f l s c (piece_end (width_bytes V) l a + 1) V (next_todo w f l s a c (width_bytes V) V t (piece_end (width_bytes V) l a) refl lt) (omega arith))
-          (λ x. let ge : l ≤ piece_end (width_bytes V) l a = ltb-false (piece_end (width_bytes V) l a) l x in omega arith),
-    )
-
--- each piece follows the one before, from the beat's first byte to its last, and is one beat for the bus below
-in_order : (w f l s : ℕ) (V : Width) → Beat w f l s → InOrder (width_bytes V) (smaller s (width_code V)) l (pieces (width_bytes V) f l) f
-in_order w f l s V b = in_order_from 8 w f l s (smaller s (width_code V)) f V (first_todo w f l s (smaller s (width_code V)) (width_bytes V) V b refl refl) (eight w f l s b)
-
--- pieces in order do not pass the beat's end
-end_after : (v c l : ℕ) (ps : List (ℕ × ℕ)) (a : ℕ) → InOrder v c l ps a → a ≤ l + 1
-end_after v c l [] a h = omega arith
-end_after v c l (p ∷ ps) a h =
-    let iw = beat_word v p.0 p.1 c h.1 in
-    let r = end_after v c l ps (p.1 + 1) h.2 in
-    omega (arith, iw.order, r, h.0)
+use Rattle.converter.proofs.Bursts.{beat_of}
+use Rattle.converter.proofs.Left.{in_order, end_after}
+use Rattle.converter.proofs.Parts.{part_lawful}
 
 -- one piece more
 one_more : (a e l x : ℕ) → a ≤ e → e ≤ l → cond (covers a e x) 1 0 + cond (covers (e + 1) l x) 1 0 ≡ cond (covers a l x) 1 0

@@ -4,10 +4,4 @@ pub mod Spans
 pub mod Sent
 pub mod Laws
 pub mod Shows
-pub mod Told
-pub mod Shared
-pub mod Bursts
-pub mod Cuts
-pub mod Moves
-pub mod Ranks
-pub mod Parts
+pub mod Sound

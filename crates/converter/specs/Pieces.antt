@@ -1,5 +1,6 @@
 -- A beat cut at multiples of the width below.
-use Rattle.std.specs.Prelude.{◌≡◌, ℕ, zero, suc, ◌+◌, ◌-◌, ◌*◌, ◌/◌, ◌%◌, ◌^◌, ◌≤◌, cond, List, [], ◌∷◌, ◌==◌, nat_lt}
+use Rattle.std.specs.Prelude.{◌≡◌, ℕ, zero, suc, ◌+◌, ◌-◌, ◌*◌, ◌/◌, ◌%◌, ◌^◌, ◌≤◌, cond, List, [], ◌∷◌, Option, Some, None, ◌==◌, nat_lt}
+use Rattle.burst.specs.declared.raw.Cover.{Cover}
 use Rattle.burst.specs.declared.raw.RawBurst.{RawBurst}
 use Rattle.burst.specs.declared.raw.Width.{Width}
 use Rattle.burst.specs.Rules.{width_bytes}
@@ -30,6 +31,15 @@ pieces_from (suc n) v l a = (a, piece_end v l a) ∷ cond (nat_lt (piece_end v l
 abbrev pub pieces : ℕ → ℕ → ℕ → List (ℕ × ℕ)
 pieces v f l = pieces_from 8 v l f
 
+-- what is left of the bytes up to l behind the byte at e
+abbrev pub behind : ℕ → ℕ → Option Cover
+behind e l = cond (nat_lt e l) (Some (record { first = e + 1; last = l })) None
+
+-- the pieces of what is left of a beat over a bus of v bytes
+abbrev pub pieces_left : ℕ → Option Cover → List (ℕ × ℕ)
+pieces_left v None = []
+pieces_left v (Some c) = pieces_from (c.last + 1 - c.first) v c.last c.first
+
 -- what goes down for a piece at a: one INCR beat with the size code c
 abbrev pub piece_burst : ℕ → ℕ → RawBurst
 piece_burst c a = record { kind = 1; start = a; size = c; count = 1 }
@@ -44,6 +54,10 @@ pub record Beat (w f l s : ℕ) : Type 0 where
   pub fits : 2 ^ s ≤ w
   pub last : l ≡ last_from f (2 ^ s)
   pub page : Room f (2 ^ s)
+
+-- what is left of a beat, from a to l, goes down over a bus of v bytes in pieces with the size code c
+abbrev pub Cuttable : ℕ → ℕ → ℕ → ℕ → Type 0
+Cuttable v c l a = (a ≤ l) × Room a (2 ^ c) × ((x : ℕ) → a ≤ x → x ≤ l → piece_end v l x ≡ last_from x (2 ^ c))
 
 -- a list of pieces that begins at a and ends with l: each follows the one before, and is one beat with the size code c on a bus of v bytes
 abbrev pub InOrder : ℕ → ℕ → ℕ → List (ℕ × ℕ) → ℕ → Type 0

@@ -9,7 +9,8 @@ use Rattle.slave.specs.declared.answer.Channel.TheVariants.{Write, Read}
 use Rattle.slave.specs.Meaning.{Meaning}
 use Rattle.slave.specs.Lanes.{worse}
 use Rattle.slave.specs.Acts.{open_after, give_after, take_answer, take_after}
-use Rattle.converter.specs.Pieces.{piece_burst}
+use Rattle.burst.specs.declared.raw.Cover.{Cover}
+use Rattle.converter.specs.Pieces.{piece_burst, code_of, smaller, pieces}
 use Rattle.converter.specs.Spans.{moved_word, moved_strobe}
 
 -- the response in the answer of a last give
@@ -51,3 +52,11 @@ unfoldable pub fetched_all : ℕ → ℕ → Meaning → ℕ → Response → Li
 fetched_all c base m word worst [] = (word, worst, m)
 fetched_all c base m word worst (p ∷ ps) =
     fetched_all c base (fetched_after c m p.0) (fetched_piece c base m word p.0 p.1).0 (worse worst (fetched_piece c base m word p.0 p.1).1) ps
+
+-- the slave below after the pieces of the write beat that covers x, of size code s on a bus of w bytes
+abbrev pub sent_beat : ℕ → ℕ → ℕ → ℕ → Meaning → Cover → Meaning
+sent_beat s w word k m x = sent_all (smaller s (code_of m.width)) w word k m (pieces m.width x.first x.last)
+
+-- the word, the worst response and the slave below after the pieces of such a read beat
+abbrev pub fetched_beat : ℕ → ℕ → Meaning → Cover → ℕ × Response × Meaning
+fetched_beat s w m x = fetched_all (smaller s (code_of m.width)) (x.first / w * w) m 0 Okay (pieces m.width x.first x.last)

@@ -1,10 +1,11 @@
 -- What a part of a beat reads and writes, from one address up to another.
-use Rattle.std.specs.Prelude.{ℕ, ◌+◌, ◌%◌, Bool, cond, ◌&&◌, nat_le, nat_lt}
+use Rattle.std.specs.Prelude.{ℕ, ◌+◌, ◌*◌, ◌/◌, ◌%◌, Bool, cond, ◌&&◌, nat_le, nat_lt}
+use Rattle.burst.specs.declared.raw.Cover.{Cover}
 use Rattle.burst.specs.Beats.{bit, covers, mask_below}
 use Rattle.slave.specs.declared.answer.Response.{Response}
 use Rattle.slave.specs.declared.answer.Response.TheVariants.{Okay}
-use Rattle.slave.specs.Meaning.{Meaning, ByteKind}
-use Rattle.slave.specs.Lanes.{lane_byte, word_of, worst_lane, write_response, is_plain}
+use Rattle.slave.specs.Meaning.{Meaning, ByteKind, idle, with_write}
+use Rattle.slave.specs.Lanes.{lane_byte, word_of, worst_lane, write_response, read_response, is_plain}
 
 -- whether the address x lies from f up to, and not at, a
 abbrev pub spans : ℕ → ℕ → ℕ → Bool
@@ -25,6 +26,22 @@ wrote w m f a word s = λ x. cond ((spans f a x && bit s (x % w)) && is_plain (m
 -- how the write of the byte at x goes, OKAY without its strobe bit
 abbrev pub wrote_at : ℕ → (ℕ → ByteKind) → ℕ → ℕ → Response
 wrote_at w kinds s x = cond (bit s (x % w)) (write_response (kinds x)) Okay
+
+-- how the read of the byte at x goes
+abbrev pub read_at : Meaning → ℕ → Response
+read_at m x = read_response (m.kinds x)
+
+-- the worst of g over the bytes of a beat on a bus of w bytes
+abbrev pub worst_over : (ℕ → Response) → ℕ → Cover → Response
+worst_over g w c = span_worst g (c.first / w * w) c.first (c.last + 1)
+
+-- the bytes of h in the lanes of that beat
+abbrev pub word_over : (ℕ → ℕ) → ℕ → Cover → ℕ
+word_over h w c = span_word h (c.first / w * w) c.first (c.last + 1)
+
+-- the slave m after a write of that beat, with idle channels
+abbrev pub wrote_over : ℕ → Meaning → Cover → ℕ → ℕ → Meaning
+wrote_over w m c word s = with_write idle Okay (wrote w m c.first (c.last + 1) word s) m
 
 -- the bytes f to l moved from their lanes on a bus of w bytes to the lanes at `base`, over another word
 abbrev pub moved_word : ℕ → ℕ → ℕ → ℕ → ℕ → ℕ → ℕ

@@ -1,6 +1,7 @@
 // The converter: a full slave of a width of its own over a slave of any width.
 #![tactic(auto)]
 
+mod beat;
 mod below;
 mod calls;
 mod cut;

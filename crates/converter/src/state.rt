@@ -1,119 +1,89 @@
 // The converter's state, its making, and the beats of its open bursts.
-ghost use Rattle.burst.specs.Beats.{raw_of, address_of, last_of};
+ghost use Rattle.burst.specs.Beats.{raw_of, first_refusal, address_of, last_of};
 ghost use Rattle.burst.specs.Rules.{width_bytes};
-ghost use Rattle.converter.specs.Shows.{converted, converted_made};
-ghost use Rattle.slave.specs.Acts.{give_answer, give_after, take_answer, take_after};
+ghost use Rattle.converter.specs.Shows.{answering, converted_made};
+ghost use Rattle.slave.specs.Acts.{give_answer, give_after, take_answer, take_after, opened};
+ghost use Rattle.slave.specs.Channels.{state_at};
 ghost use Rattle.slave.specs.Lanes.{stray};
-ghost use Rattle.slave.specs.Making.{ready};
-ghost use Rattle.slave.specs.Meaning.{busy, sound_stand, told};
-ghost use Rattle.std.specs.Prelude.{◌≡◌, true, false, Ok};
+ghost use Rattle.slave.specs.Meaning.{sound_stand, told};
+ghost use Rattle.slave.specs.declared.answer.Channel.{Channel};
+ghost use Rattle.std.specs.Option.{ForSome};
+ghost use Rattle.std.specs.Prelude.{◌≡◌, true, false, Some, None, Ok};
 
+use crate::beat::BusBeat;
 use crate::{making, pieces};
 use burst::{Burst, Width};
-use slave::{ChannelState, Given, Response, Slave, SlaveFault, Step};
+use slave::{Channel, Channels, Given, OpenBurst, Response, Slave, SlaveFault, Step};
 
-// A full slave of its own width over another slave. Between its calls both channels below are idle.
+// A full slave of its own width over another slave; without a width it is dead. Between its calls both channels below are idle.
 #[derive(Drop)]
 pub struct Converter<S> {
     pub below: S,
-    pub(crate) live: bool,
-    pub(crate) width: Width,
-    pub(crate) write: ChannelState,
-    pub(crate) read: ChannelState,
-    ghost writes: { sound_stand (width_bytes width) (told write.place) ≡ true },
-    ghost reads: { sound_stand (width_bytes width) (told read.place) ≡ true },
+    pub(crate) width: Option<Width>,
+    pub(crate) channels: Channels,
+    ghost opens: { (channel : Channel) → ForSome width (λ w. sound_stand (width_bytes w) (told (state_at channel channels).place) ≡ true) },
 }
 
 impl<S: Slave> Converter<S> {
     // A converter over a slave; a dead one where the check refuses it.
     pub fn new(below: S, width: u8) -> Converter<S>
-        ensures { converted result.live result.width result.write result.read (S.Slave.meaning result.below) ≡ converted_made (S.Slave.meaning below) width }
+        ensures { ⟦<Converter<S> as Slave>⟧.meaning result ≡ converted_made (S.Slave.meaning below) width }
     {
-        let (live, width) = match making::check(&below, width) {
-            Ok(bus) => (true, bus),
-            Err(_) => (false, Width::Eight),
-        };
         Converter {
+            width: making::check(&below, width).ok(),
             below,
-            live,
-            width,
-            write: ChannelState::idle(),
-            read: ChannelState::idle(),
+            channels: Channels::idle(),
         }
     }
 
-    // Whether the converter answers: it was made live, and both channels below are idle.
-    pub(crate) fn alive(&self) -> bool
-        ensures live { result ≡ true → self.now.live ≡ true }
-        ensures ready { result ≡ true → ready (S.Slave.meaning self.now.below) ≡ true }
-        ensures shows { result ≡ (converted self.now.live self.now.width self.now.write self.now.read (S.Slave.meaning self.now.below)).live }
+    // The converter's width, where it answers: it was made live, and both channels below are idle.
+    pub(crate) fn alive(&self) -> Option<Width>
+        ensures { result ≡ answering self.now.width (S.Slave.meaning self.now.below) }
     {
-        self.live && slave::is_ready(&self.below)
+        self.width.filter(|_| slave::is_ready(&self.below))
     }
 
-    // Whether a strobe leaves the lanes of the next write beat.
-    fn strays(&self, burst: Burst, taken: u16, strobe: u8) -> bool
-        requires { told self.now.write.place ≡ busy (raw_of burst) taken }
-        ensures { result ≡ stray (width_bytes self.now.width) (address_of (raw_of burst) taken) (last_of (raw_of burst) taken) strobe }
+    // Opens a burst at an idle channel. Each of the calls that follow asks that the converter answers now:
+    // `below` may be moved by others, so no invariant keeps it.
+    #[tactic(auto, using(crate::proofs::Told::open_opens))]
+    pub(crate) fn begin(&mut self, channel: Channel, burst: Burst, bus: Width)
+        requires alive { answering self.old.width (S.Slave.meaning self.old.below) ≡ Some bus }
+        requires free { (state_at channel self.old.channels).place ≡ None }
+        requires lawful { first_refusal (width_bytes bus) (raw_of burst) ≡ 0 }
+        ensures { ⟦<Converter<S> as Slave>⟧.meaning self.new ≡ opened channel (raw_of burst) (⟦<Converter<S> as Slave>⟧.meaning self.old) }
     {
-        let lanes = burst.lanes(taken, self.width).unwrap();
-        slave::strays(lanes, strobe)
+        let _ = self.channels.step(channel, Step::Open(burst));
     }
 
-    // Sends a write beat of the open burst down; its strobe keeps to its lanes.
-    fn send_beat(
-        &mut self,
-        burst: Burst,
-        taken: u16,
-        word: u64,
-        strobe: u8,
-    ) -> Result<Given, SlaveFault>
-        requires live { self.old.live ≡ true }
-        requires ready { ready (S.Slave.meaning self.old.below) ≡ true }
-        requires stands { told self.old.write.place ≡ busy (raw_of burst) taken }
-        requires kept { stray (width_bytes self.old.width) (address_of (raw_of burst) taken) (last_of (raw_of burst) taken) strobe ≡ false }
-        ensures answer { result ≡ give_answer (converted self.old.live self.old.width self.old.write self.old.read (S.Slave.meaning self.old.below)) word strobe }
-        ensures after { converted self.new.live self.new.width self.new.write self.new.read (S.Slave.meaning self.new.below) ≡ give_after (converted self.old.live self.old.width self.old.write self.old.read (S.Slave.meaning self.old.below)) word strobe }
-    {
-        let (first, last) = burst.cover(taken).unwrap();
-        let bus = self.width.bytes();
-        let here = pieces::send(&mut self.below, first, last, burst.size, bus, word, strobe);
-        self.write.step(Step::Beat(here))
-    }
-
-    // Takes a write beat of the open burst. A stray strobe is refused before anything goes down.
+    // Takes the next beat of the open write, whose strobe keeps to its lanes.
     pub(crate) fn give_beat(
         &mut self,
-        burst: Burst,
-        taken: u16,
+        at: OpenBurst,
+        bus: Width,
         word: u64,
         strobe: u8,
     ) -> Result<Given, SlaveFault>
-        requires live { self.old.live ≡ true }
-        requires ready { ready (S.Slave.meaning self.old.below) ≡ true }
-        requires stands { told self.old.write.place ≡ busy (raw_of burst) taken }
-        ensures answer { result ≡ give_answer (converted self.old.live self.old.width self.old.write self.old.read (S.Slave.meaning self.old.below)) word strobe }
-        ensures after { converted self.new.live self.new.width self.new.write self.new.read (S.Slave.meaning self.new.below) ≡ give_after (converted self.old.live self.old.width self.old.write self.old.read (S.Slave.meaning self.old.below)) word strobe }
+        requires alive { answering self.old.width (S.Slave.meaning self.old.below) ≡ Some bus }
+        requires stands { self.old.channels.write.place ≡ Some at }
+        requires kept { stray (width_bytes bus) (address_of (raw_of at.burst) at.taken) (last_of (raw_of at.burst) at.taken) strobe ≡ false }
+        ensures answer { result ≡ give_answer (⟦<Converter<S> as Slave>⟧.meaning self.old) word strobe }
+        ensures after { ⟦<Converter<S> as Slave>⟧.meaning self.new ≡ give_after (⟦<Converter<S> as Slave>⟧.meaning self.old) word strobe }
     {
-        if self.strays(burst, taken, strobe) {
-            return Err(SlaveFault::Strobe);
-        }
-        self.send_beat(burst, taken, word, strobe)
+        let beat = BusBeat::next_of(at, bus);
+        let response = pieces::send(&mut self.below, beat, word, strobe);
+        self.channels.step(Channel::Write, Step::Beat(response))
     }
 
-    // Answers a read beat of the open burst.
-    pub(crate) fn take_beat(&mut self, burst: Burst, taken: u16) -> (u64, Response, u16)
-        requires live { self.old.live ≡ true }
-        requires ready { ready (S.Slave.meaning self.old.below) ≡ true }
-        requires stands { told self.old.read.place ≡ busy (raw_of burst) taken }
-        ensures answer { Ok result ≡ take_answer (converted self.old.live self.old.width self.old.write self.old.read (S.Slave.meaning self.old.below)) }
-        ensures after { converted self.new.live self.new.width self.new.write self.new.read (S.Slave.meaning self.new.below) ≡ take_after (converted self.old.live self.old.width self.old.write self.old.read (S.Slave.meaning self.old.below)) }
+    // Answers the next beat of the open read.
+    pub(crate) fn take_beat(&mut self, at: OpenBurst, bus: Width) -> (u64, Response, u16)
+        requires alive { answering self.old.width (S.Slave.meaning self.old.below) ≡ Some bus }
+        requires stands { self.old.channels.read.place ≡ Some at }
+        ensures answer { Ok result ≡ take_answer (⟦<Converter<S> as Slave>⟧.meaning self.old) }
+        ensures after { ⟦<Converter<S> as Slave>⟧.meaning self.new ≡ take_after (⟦<Converter<S> as Slave>⟧.meaning self.old) }
     {
-        let (first, last) = burst.cover(taken).unwrap();
-        let bus = self.width.bytes();
-        let (word, response) = pieces::fetch(&mut self.below, first, last, burst.size, bus);
-        let left = burst.count - taken - 1;
-        let _ = self.read.step(Step::Beat(response));
-        (word, response, left)
+        let beat = BusBeat::next_of(at, bus);
+        let (word, response) = pieces::fetch(&mut self.below, beat);
+        let _ = self.channels.step(Channel::Read, Step::Beat(response));
+        (word, response, at.left())
     }
 }

@@ -31,6 +31,10 @@ abbrev pub queue_at : Channels → Channel → Queue
 queue_at c Write = c.write
 queue_at c Read = c.read
 
+-- one of the channels of the fabric
+abbrev pub queue_in : Fabric → Channel → Queue
+queue_in f ch = queue_at (channels_of f) ch
+
 -- the channels with one of them changed
 abbrev pub with_queue : Channel → Queue → Channels → Channels
 with_queue Write q c = record { write = q; read = c.read }

@@ -5,3 +5,4 @@ pub mod Picking
 pub mod Waits
 pub mod Channels
 pub mod Acts
+pub mod Lending

@@ -1,17 +1,18 @@
-// The fabric and its five calls, each over the slave that is named with it.
+// The fabric and its five calls. That each call names its slave, and that nothing here sees an end or an adapter,
+// is a rule of the project.
 ghost use Rattle.std.specs.Prelude.{◌≡◌, ◌<◌, false, IfOk, if◌then◌else◌};
-ghost use Rattle.fabric.specs.Channels.{channels_of, queue_at, with_queue, no_channels};
+ghost use Rattle.fabric.specs.Channels.{channels_of, queue_of, queue_in, with_queue, no_channels};
+ghost use Rattle.std.specs.Borrow.{sem};
+ghost use Rattle.fabric.specs.Lending.{LendsQueue};
 ghost use Rattle.fabric.specs.Acts.{request_answer, request_after, grant_answer, grant_after, grant_slave, put_answer, put_after, put_slave, take_answer, take_after, take_slave, create_answer, fits_below};
 ghost use Rattle.fabric.specs.Picking.{ByRule};
 ghost use Rattle.slave.specs.declared.answer.Channel.TheVariants.{Write, Read};
 
 use crate::queue::ChannelQueue;
 use crate::types::{Answer, FabricFault, Outcome, Request};
+use burst::Width;
 use slave::{Channel, Given, Slave};
 use std::alloc::{AllocError, Global};
-
-// The bytes of the bus that the fabric serves.
-const WIDTH: u32 = 8;
 
 // Both channels, with requests of masters 0 to 3.
 #[derive(Drop)]
@@ -24,10 +25,21 @@ pub struct Fabric {
 fn fits<S: Slave>(slave: &S) -> bool
     ensures { result ≡ fits_below (S.Slave.meaning slave.now) }
 {
-    slave::is_ready(slave) && slave.full() && slave.width().bytes() == WIDTH
+    slave::is_ready(slave) && slave.full() && slave.width() == Width::Eight
 }
 
 impl Fabric {
+    // One of the channels: what is done to it there is done to the fabric.
+    fn queue(&mut self, channel: Channel) -> &mut ChannelQueue
+        ensures* writes_back { sem 𝓛 (LendsQueue self.entry channel result) }
+        ensures value { queue_of result.now ≡ queue_in self.old channel }
+    {
+        match channel {
+            Channel::Write => &mut self.write,
+            Channel::Read => &mut self.read,
+        }
+    }
+
     // A fabric without requests. It reserves the memory for all that may ever wait: no later call wants any.
     pub fn new(heap: Global) -> Result<Fabric, AllocError>
         ensures { IfOk result (λ f. channels_of f ≡ no_channels) }
@@ -53,26 +65,20 @@ impl Fabric {
 
     // Adds a waiting request to a channel.
     pub fn request(&mut self, channel: Channel, request: Request) -> Outcome
-        ensures answer { result ≡ request_answer (queue_at (channels_of self.old) channel) request }
-        ensures after { channels_of self.new ≡ with_queue channel (request_after (queue_at (channels_of self.old) channel) request) (channels_of self.old) }
+        ensures answer { result ≡ request_answer (queue_in self.old channel) request }
+        ensures after { channels_of self.new ≡ with_queue channel (request_after (queue_in self.old channel) request) (channels_of self.old) }
     {
-        match channel {
-            Channel::Write => self.write.request(request),
-            Channel::Read => self.read.request(request),
-        }
+        self.queue(channel).request(request)
     }
 
     // Opens the picked request of a channel at the slave.
     pub fn grant<S: Slave>(&mut self, slave: &mut S, channel: Channel) -> Outcome
-        ensures answer { result ≡ grant_answer (queue_at (channels_of self.old) channel) (S.Slave.meaning slave.old) channel }
-        ensures after { channels_of self.new ≡ with_queue channel (grant_after (queue_at (channels_of self.old) channel) (S.Slave.meaning slave.old) channel) (channels_of self.old) }
-        ensures slave { S.Slave.meaning slave.new ≡ grant_slave (queue_at (channels_of self.old) channel) (S.Slave.meaning slave.old) channel }
-        ensures rule { ByRule (queue_at (channels_of self.old) channel).rows }
+        ensures answer { result ≡ grant_answer (queue_in self.old channel) (S.Slave.meaning slave.old) channel }
+        ensures after { channels_of self.new ≡ with_queue channel (grant_after (queue_in self.old channel) (S.Slave.meaning slave.old) channel) (channels_of self.old) }
+        ensures slave { S.Slave.meaning slave.new ≡ grant_slave (queue_in self.old channel) (S.Slave.meaning slave.old) channel }
+        ensures rule { ByRule (queue_in self.old channel).rows }
     {
-        match channel {
-            Channel::Write => self.write.grant(slave, channel),
-            Channel::Read => self.read.grant(slave, channel),
-        }
+        self.queue(channel).grant(slave, channel)
     }
 
     // Gives the next beat of the open write.
@@ -84,54 +90,33 @@ impl Fabric {
         strobe: u8,
         last: bool,
     ) -> Outcome
-        ensures answer { result ≡ put_answer (channels_of self.old).write (S.Slave.meaning slave.old) master word strobe last }
-        ensures after { channels_of self.new ≡ with_queue Write (put_after (channels_of self.old).write (S.Slave.meaning slave.old) master word strobe last) (channels_of self.old) }
-        ensures slave { S.Slave.meaning slave.new ≡ put_slave (channels_of self.old).write (S.Slave.meaning slave.old) master word strobe last }
+        ensures answer { result ≡ put_answer (queue_in self.old Write) (S.Slave.meaning slave.old) master word strobe last }
+        ensures after { channels_of self.new ≡ with_queue Write (put_after (queue_in self.old Write) (S.Slave.meaning slave.old) master word strobe last) (channels_of self.old) }
+        ensures slave { S.Slave.meaning slave.new ≡ put_slave (queue_in self.old Write) (S.Slave.meaning slave.old) master word strobe last }
     {
-        let Some(going) = self.write.current() else {
-            return Err(FabricFault::NotOpen);
-        };
-        if going.request.master != master {
-            return Err(FabricFault::OtherMaster);
-        }
-        if !slave
-            .place(Channel::Write)
-            .is_at(going.request.burst, going.taken)
-        {
-            return Err(FabricFault::Place);
-        }
-        if last != going.is_last() {
-            return Err(FabricFault::LastMark);
-        }
+        let going = self.write.going_for_put(slave, master, last)?;
         let given = slave.give(word, strobe)?;
-        self.write.advance(going);
-        match given {
-            Given::More(left) => Ok(Answer::More(left)),
-            Given::Done(response) => Ok(Answer::Done {
+        self.write.advance();
+        Ok(match given {
+            Given::More(left) => Answer::More(left),
+            Given::Done(response) => Answer::Done {
                 master: going.request.master,
                 id: going.request.id,
                 response,
-            }),
-        }
+            },
+        })
     }
 
     // Takes the next beat of the open read.
+    // That a take answers word, response and beats left is a rule of the project.
     pub fn take<S: Slave>(&mut self, slave: &mut S) -> Outcome
-        ensures answer { result ≡ take_answer (channels_of self.old).read (S.Slave.meaning slave.old) }
-        ensures after { channels_of self.new ≡ with_queue Read (take_after (channels_of self.old).read (S.Slave.meaning slave.old)) (channels_of self.old) }
-        ensures slave { S.Slave.meaning slave.new ≡ take_slave (channels_of self.old).read (S.Slave.meaning slave.old) }
+        ensures answer { result ≡ take_answer (queue_in self.old Read) (S.Slave.meaning slave.old) }
+        ensures after { channels_of self.new ≡ with_queue Read (take_after (queue_in self.old Read) (S.Slave.meaning slave.old)) (channels_of self.old) }
+        ensures slave { S.Slave.meaning slave.new ≡ take_slave (queue_in self.old Read) (S.Slave.meaning slave.old) }
     {
-        let Some(going) = self.read.current() else {
-            return Err(FabricFault::NotOpen);
-        };
-        if !slave
-            .place(Channel::Read)
-            .is_at(going.request.burst, going.taken)
-        {
-            return Err(FabricFault::Place);
-        }
+        let going = self.read.going_for_take(slave)?;
         let (word, response, left) = slave.take()?;
-        self.read.advance(going);
+        self.read.advance();
         Ok(Answer::Beat {
             master: going.request.master,
             id: going.request.id,

@@ -5,7 +5,7 @@ ghost use Rattle.std.specs.Prelude.{◌≡◌, true};
 use crate::row::Open;
 use crate::waiting::Waiting;
 
-// The waiting requests of a channel and the open one, of which a beat is left.
+// The waiting requests of a channel and the open one, of which a beat is left: a ghost field, for the reasons at `Waiting`.
 #[derive(Drop)]
 pub struct ChannelQueue {
     waiting: Waiting,

@@ -1,7 +1,7 @@
 // What masters ask of the fabric, and what it answers.
 ghost use Rattle.std.specs.Prelude.{◌≡◌, ℕ};
 ghost use Rattle.fabric.specs.Numbers.{fabric_number};
-ghost use Rattle.fabric.specs.declared.types.FabricFault.TheVariants.{Slave};
+ghost use Rattle.fabric.specs.declared.types.FabricFault.TheVariants.{Slave, Unlawful};
 
 use burst::{BurstFault, RawBurst};
 use slave::{Channel, Response, SlaveFault};
@@ -88,7 +88,7 @@ pub enum FabricFault {
 pub type Outcome = Result<Answer, FabricFault>;
 
 impl FabricFault {
-    // The number of the refusal.
+    // The number of the refusal. No discriminants: two of the faults carry another, which has its own number.
     pub fn number(self) -> u8
         ensures { result ≡ fabric_number self }
     {
@@ -108,6 +108,15 @@ impl FabricFault {
     }
 }
 
+impl From<BurstFault> for FabricFault {
+    ghost from_gives = { λ e r. r ≡ Unlawful e };
+
+    fn from(broken: BurstFault) -> FabricFault {
+        FabricFault::Unlawful(broken)
+    }
+}
+
+// The slave's own fault, whole. That `From` lifts it is a rule of the project.
 impl From<SlaveFault> for FabricFault {
     ghost from_gives = { λ e r. r ≡ Slave e };
 

@@ -6,7 +6,10 @@ use crate::row::Row;
 // How many requests wait in a channel at most.
 pub(crate) const MOST_WAITING: usize = 16;
 
-// At most sixteen rows; room for all of them is reserved, so that none is refused for want of memory.
+// At most sixteen rows. That it is a type of its own and reserves its memory when it is made,
+// so that no request is refused for want of any, is a rule of the project.
+// Its facts are ghost fields and not an `impl Model`: each holder of a fabric knows them, and a fabric whose making is refused
+// is the whole value that it was, the room of its lists too.
 #[derive(Drop)]
 pub struct Waiting {
     rows: Vec<Row>,

@@ -1,18 +1,13 @@
 // The bench: a script on standard input, its report on standard output.
 #![tactic(auto)]
 
+use bench::{MEMORY_BYTES, REPORT_BYTES};
 use fabric::Fabric;
 use std::io;
 use std::io::{Read, Write};
 
 // One byte more than a script can have: a file that long is none, and need not be read on.
-const FILE_BYTES: u64 = 57_353;
-
-// The bytes of the memory below the pile.
-const MEMORY_BYTES: usize = 8192;
-
-// Room for the lines of 2,048 acts.
-const REPORT_BYTES: usize = 131_072;
+const FILE_BYTES: u64 = script::MOST_BYTES as u64 + 1;
 
 // All memory is made before anything is run, and the report is whole before anything is printed.
 fn main(rt: HostRuntime) -> io::Result<()> {

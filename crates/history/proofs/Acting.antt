@@ -1,12 +1,12 @@
 -- One act on a fabric and a slave in a run.
-use Rattle.std.proofs.Common.{◌≡◌, ◌∷◌, Result, sym, ap, ◌∙◌}
+use Rattle.std.proofs.Common.{◌≡◌, ◌∷◌, Result}
 use Rattle.fabric.specs.declared.types.Act.{Act}
 use Rattle.fabric.specs.declared.types.Act.TheVariants.{Request as Ask, Grant, Put, Take}
 use Rattle.fabric.specs.declared.types.Answer.{Answer}
 use Rattle.fabric.specs.declared.types.FabricFault.{FabricFault}
 use Rattle.slave.specs.Meaning.{Meaning}
 use Rattle.fabric.specs.Channels.{Channels}
-use Rattle.history.specs.Tracks.{channels_after, slave_after, act_answer, act_after, act_slave}
+use Rattle.history.specs.Tracks.{act_answer, act_after, act_slave}
 use Rattle.history.specs.History.{History}
 use Rattle.history.specs.Bytes.{Board}
 use Rattle.history.specs.Owed.{owed, Run}
@@ -30,13 +30,8 @@ pub act_tracks : (m : Board) (h : History) (c : Channels) (s : Meaning) (a : Act
     → (r : Result Answer FabricFault) (c' : Channels) (s' : Meaning) → r ≡ act_answer c s a → c' ≡ act_after c s a → s' ≡ act_slave c s a → Tracks m (event a r ∷ h) c' s'
 act_tracks m h c s a t r c' s' x y z =
     let p = act_step m h a t.run in
-    let e : r ≡ owed m h a = x ∙ ap (λ d. act_answer d s a) t.fabric ∙ ap (λ v. act_answer (channels_after h) v a) t.slave ∙ p.answers in
-    record {
-      small = t.small;
-      run = (e, t.run);
-      fabric = y ∙ ap (λ d. act_after d s a) t.fabric ∙ ap (λ v. act_after (channels_after h) v a) t.slave ∙ p.after ∙ ap (λ v. channels_after (event a v ∷ h)) (sym e);
-      slave = z ∙ ap (λ d. act_slave d s a) t.fabric ∙ ap (λ v. act_slave (channels_after h) v a) t.slave ∙ p.slave ∙ ap (λ v. slave_after m (event a v ∷ h)) (sym e);
-    }
+    let e : r ≡ owed m h a = rw (x, t.fabric, t.slave) p.answers in
+    record { small = t.small; run = (e, t.run); fabric = rw (y, t.fabric, t.slave, e) p.after; slave = rw (z, t.fabric, t.slave, e) p.slave }
 
 -- and the law holds of the longer run
 pub goes_on : GoesOn

@@ -1,25 +1,24 @@
 -- The open bursts of a run: lawful ones, with the beats counted.
-use Rattle.std.proofs.Common.{◌≡◌, ℕ, ◌<◌, ◌≤◌, Bool, true, false, cond, ◌||◌, ltb, leb, ◌⊎◌, [], ◌∷◌, length, Some, None, Ok, Err, Option, sym, refl, ap, ◌∙◌, subst, inl, inr, arith}
+use Rattle.std.proofs.Common.{◌≡◌, ℕ, ◌<◌, ◌≤◌, Bool, true, false, cond, ◌||◌, ltb, leb, ◌⊎◌, [], ◌∷◌, length, Some, None, Ok, Err, Option, refl, ◌∙◌, subst, inl, inr, arith}
 use Rattle.std.specs.List.{AllByRecursion as All}
 use Rattle.std.proofs.ByRecursion.{All-append}
-use Rattle.std.proofs.lemmas.Bool.{ltb-true, cases_Bool, and_parts}
+use Rattle.std.proofs.lemmas.Bool.{ltb-true, cases_Bool}
 use Rattle.std.proofs.lemmas.Bool.Decides.{nat_tests}
 use Rattle.burst.specs.Beats.{first_refusal}
 use Rattle.slave.specs.declared.answer.Channel.{Channel}
 use Rattle.slave.specs.declared.answer.Channel.TheVariants.{Write, Read}
 use Rattle.fabric.specs.declared.types.Request.{Request}
-use Rattle.fabric.specs.declared.types.Act.{Act}
-use Rattle.fabric.specs.declared.types.Act.TheVariants.{Request as Ask, Grant, Put, Take}
 use Rattle.fabric.specs.declared.types.Answer.TheVariants.{Accepted, Granted}
 use Rattle.fabric.specs.declared.types.FabricFault.{FabricFault}
 use Rattle.fabric.specs.declared.types.FabricFault.TheVariants.{Source, Full}
-use Rattle.history.specs.History.{Event, History, accepted, tally, same, asks, asked, granting, moves, moving, Filed, filed, requests, waiting, own, Going, started, one_more, current, burst_of, unfinished, opened}
+use Rattle.history.specs.History.{Event, History, accepted, tally, asked, granting, moving, Filed, filed, requests, waiting, own, Going, started, one_more, current, burst_of, unfinished, opened}
 use Rattle.history.specs.Bytes.{Board}
 use Rattle.history.specs.Owed.{owed, owed_request, owed_put_at, owed_take_at, Run}
 use Rattle.history.specs.Law.{BeatRight}
+use Rattle.history.proofs.EventActs.{cond_some, asked_act, put_act, take_act}
 use Rattle.history.proofs.Filing.{all_mem}
 use Rattle.history.proofs.Waits.{waiting_in, own_picks}
-use Rattle.history.proofs.Bound.{same_is, cond_some, grant_own}
+use Rattle.history.proofs.Bound.{grant_own}
 
 -- accepted requests have lawful bursts
 abbrev pub Lawful : Filed → Type 0
@@ -37,13 +36,9 @@ ask_lawful ch h q e = ask_passes (ltb 3 q.master || ltb 15 q.qos) (first_refusal
 -- and the one that an event has accepted
 pub asked_lawful : (m : Board) (ch : Channel) (x : Event) (h : History) (q : Request) → x.answer ≡ owed m h x.act → asked ch x ≡ Some q → first_refusal 8 q.burst ≡ 0
 unfolding owed
-asked_lawful m ch x h q r e = let s = cond_some (accepted x.answer) (asks ch x.act) e in go x.act (sym (ap accepted r) ∙ s.0) s.1
-  where
-    go : (a : Act) → accepted (owed m h a) ≡ true → asks ch a ≡ Some q → first_refusal 8 q.burst ≡ 0
-    go (Ask c p) t s = let k : p ≡ q = (let u = (cond_some (same ch c) (Some p) s).1 in cc) in subst (λ (v : Request). first_refusal 8 v.burst ≡ 0) k (ask_lawful c h p t)
-    go (Grant c) t s = let z : ◌≡◌ {A = ℕ} 0 1 = cc in absurd (omega arith)
-    go (Put a b c d) t s = let z : ◌≡◌ {A = ℕ} 0 1 = cc in absurd (omega arith)
-    go Take t s = let z : ◌≡◌ {A = ℕ} 0 1 = cc in absurd (omega arith)
+asked_lawful m ch x h q r e =
+    let a = asked_act ch x q e in
+    ask_lawful ch h q (rw (r, a.1) at a.0)
 
 -- all accepted requests have lawful bursts
 pub requests_lawful : (m : Board) (ch : Channel) (h : History) → Run m h → All Lawful (requests ch h)
@@ -67,34 +62,31 @@ WithinIf (Some g) = Within g
 -- an accepted put or take finds an open burst
 pub moving_open : (m : Board) (ch : Channel) (x : Event) (h : History) → x.answer ≡ owed m h x.act → moving ch x ≡ true → (g : Going) × (opened ch h ≡ Some g)
 unfolding owed
-moving_open m ch x h r e = let s = and_parts (accepted x.answer) (moves ch x.act) e in go x.act (sym (ap accepted r) ∙ s.0) s.1
+moving_open m Write x h r e =
+    let a = put_act x e in
+    go (opened Write h) refl a.1.master a.1.strobe a.1.mark (rw (r, a.1.is) at a.0)
   where
-    put : (o : Option Going) (p w : ℕ) (l : Bool) → opened Write h ≡ o → accepted (owed_put_at m h o p w l) ≡ true → (g : Going) × (opened Write h ≡ Some g)
-    put None p w l f t = let z : ◌≡◌ {A = ℕ} 0 1 = cc in absurd (omega arith)
-    put (Some g) p w l f t = (g, f)
-
-    take : (o : Option Going) → opened Read h ≡ o → accepted (owed_take_at m h o) ≡ true → (g : Going) × (opened Read h ≡ Some g)
-    take None f t = let z : ◌≡◌ {A = ℕ} 0 1 = cc in absurd (omega arith)
-    take (Some g) f t = (g, f)
-
-    go : (a : Act) → accepted (owed m h a) ≡ true → moves ch a ≡ true → (g : Going) × (opened ch h ≡ Some g)
-    go (Ask c p) t s = let z : ◌≡◌ {A = ℕ} 0 1 = cc in absurd (omega arith)
-    go (Grant c) t s = let z : ◌≡◌ {A = ℕ} 0 1 = cc in absurd (omega arith)
-    go (Put a b c d) t s = let k = same_is ch Write s in rw k (put (opened Write h) a c d refl t)
-    go Take t s = let k = same_is ch Read s in rw k (take (opened Read h) refl t)
+    go : (o : Option Going) → opened Write h ≡ o → (p w : ℕ) (l : Bool) → accepted (owed_put_at m h o p w l) ≡ true → (g : Going) × (opened Write h ≡ Some g)
+    go None f p w l t = cc
+    go (Some g) f p w l t = (g, f)
+moving_open m Read x h r e =
+    let a = take_act x e in
+    go (opened Read h) refl (rw (r, a.1) at a.0)
+  where
+    go : (o : Option Going) → opened Read h ≡ o → accepted (owed_take_at m h o) ≡ true → (g : Going) × (opened Read h ≡ Some g)
+    go None f t = cc
+    go (Some g) f t = (g, f)
 
 -- an open burst is the last grant's, with a beat left
 pub opened_current : (ch : Channel) (h : History) (g : Going) → opened ch h ≡ Some g → (current ch h ≡ Some g) × (g.beats < (burst_of g).count)
 unfolding opened
 opened_current ch h g e = go (current ch h) refl e
   where
-    one : (k : Going) (b : Bool) → ltb k.beats (burst_of k).count ≡ b → current ch h ≡ Some k → cond b (Some k) None ≡ Some g → (current ch h ≡ Some g) × (g.beats < (burst_of g).count)
-    one k true t f u = (f ∙ u, let j : k ≡ g = cc in subst (λ (v : Going). v.beats < (burst_of v).count) j (ltb-true k.beats (burst_of k).count t))
-    one k false t f u = let z : ◌≡◌ {A = ℕ} 0 1 = cc in absurd (omega arith)
-
     go : (o : Option Going) → current ch h ≡ o → unfinished o ≡ Some g → (current ch h ≡ Some g) × (g.beats < (burst_of g).count)
-    go None f u = let z : ◌≡◌ {A = ℕ} 0 1 = cc in absurd (omega arith)
-    go (Some k) f u = one k (ltb k.beats (burst_of k).count) refl f u
+    go None f u = cc
+    go (Some k) f u =
+        let s = cond_some (ltb k.beats (burst_of k).count) (Some k) u in
+        (f ∙ s.1, let j : k ≡ g = cc in subst (λ (v : Going). v.beats < (burst_of v).count) j (ltb-true k.beats (burst_of k).count s.0))
 
 -- no more beats were moved than the burst has
 pub within_burst : (m : Board) (ch : Channel) (h : History) → Run m h → WithinIf (current ch h)

@@ -1,4 +1,5 @@
 -- From lists of requests to the whole law.
+pub mod EventActs
 pub mod Filing
 pub mod Waits
 pub mod Bound

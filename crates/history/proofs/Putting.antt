@@ -1,38 +1,34 @@
 -- A put of the fabric in a run.
-use Rattle.std.proofs.Common.{◌≡◌, ℕ, ◌+◌, ◌%◌, Bool, true, false, cond, ◌&&◌, eqb, ltb, ◌∷◌, Some, None, Ok, Err, Option, Result, sym, refl, ap, ◌∙◌}
+use Rattle.std.proofs.Common.{◌≡◌, ℕ, ◌+◌, Bool, true, false, cond, eqb, ltb, ◌∷◌, Some, None, Ok, Err, Option, Result, refl, ap, ◌∙◌, ⊎_elim}
 use mathlib.Core.Bool.{beq}
-use Rattle.std.proofs.lemmas.Bool.{true≢false}
 use Rattle.burst.specs.declared.raw.RawBurst.{RawBurst}
 use Rattle.burst.specs.Beats.{address_of, last_of}
 use Rattle.slave.specs.declared.answer.Channel.{Channel}
 use Rattle.slave.specs.declared.answer.Channel.TheVariants.{Write, Read}
 use Rattle.fabric.specs.declared.types.Act.{Act}
 use Rattle.fabric.specs.declared.types.Act.TheVariants.{Put}
-use Rattle.fabric.specs.declared.types.Answer.TheVariants.{More, Done}
 use Rattle.fabric.specs.declared.types.FabricFault.{FabricFault}
 use mathlib.Core.Path.{fun_ext}
-use Rattle.slave.specs.declared.answer.Response.{Response}
 use Rattle.slave.specs.declared.answer.Response.TheVariants.{Okay}
-use Rattle.slave.specs.Meaning.{Meaning, busy, is_at}
+use Rattle.slave.specs.Meaning.{Meaning, busy}
 use Rattle.fabric.specs.Channels.{Queue, with_queue, with_open}
-use Rattle.history.specs.Tracks.{open_of, stand_of, worst_kept, queue_after, channels_after, slave_after}
+use Rattle.history.specs.Tracks.{stand_of, worst_kept, queue_after, channels_after, slave_after}
 use Rattle.slave.specs.declared.answer.SlaveFault.TheVariants.{Strobe}
 use Rattle.slave.specs.declared.answer.Given.{Given}
-use Rattle.slave.specs.declared.answer.Given.TheVariants.{More as GivenMore, Done as GivenDone}
-use Rattle.slave.specs.Lanes.{stray, worse, write_worst, written, is_plain, lane_byte}
-use Rattle.slave.specs.Acts.{left, worst_after, gave_answer, gave_after, give_answer, give_after}
+use Rattle.slave.specs.Lanes.{stray, worse, written}
+use Rattle.slave.specs.Acts.{worst_after, gave_answer, gave_after, give_answer, give_after}
 use Rattle.slave.proofs.Calls.{give_stray, give_taken, is_at_self}
-use Rattle.fabric.specs.declared.types.FabricFault.TheVariants.{LastMark, NotOpen, OtherMaster, Place, Slave}
+use Rattle.fabric.specs.declared.types.FabricFault.TheVariants.{LastMark, NotOpen, OtherMaster, Slave}
 use Rattle.fabric.specs.Rows.{moved}
 use Rattle.fabric.specs.Acts.{passed, where_passed, carried, put_test, put_given, put_answer, put_after, put_slave}
 use Rattle.history.specs.History.{Event, History, same, Going, burst_of, opened}
-use Rattle.history.specs.Bytes.{Board, strobes, strobes_at, stored, response_written, response_at, worst}
+use Rattle.history.specs.Bytes.{Board, strobes, stored, response_written, worst}
 use Rattle.history.specs.Owed.{owed, owed_put_at, put_of, is_last}
 use Rattle.history.proofs.Beats.{opened_current}
 use Rattle.history.proofs.Whole.{worst_put}
-use Rattle.history.proofs.Quiet.{event, Quiet, opened_quiet, channels_with, slave_same}
+use Rattle.history.proofs.Quiet.{event, Quiet, opened_quiet, channels_with}
 use Rattle.history.proofs.Steps.{Step, ActStep, refused_step, accepted_step}
-use Rattle.history.proofs.Moving.{open_as, next, flipped, opened_moved, stand_moved, queue_moved}
+use Rattle.history.proofs.Moving.{open_as, next, last_or_more, opened_moved, stand_moved, queue_moved}
 
 module _ (m : Board) (h : History) (master word strobe : ℕ) (mark : Bool) where
   abbrev q : Queue
@@ -50,9 +46,7 @@ module _ (m : Board) (h : History) (master word strobe : ℕ) (mark : Bool) wher
   -- refused by a test of the fabric
   stopped : (e : FabricFault) → owed m h a ≡ Err e → put_test q.current s master mark ≡ Err e → PutStep
   stopped e o t =
-      refused_step m h a e _ _ _ o (ap (λ z. passed z (λ o. passed (carried (give_answer s word strobe)) (λ g. Ok (put_given o g)))) t)
-      (ap (λ z. with_queue Write (where_passed z q (λ o. where_passed (carried (give_answer s word strobe)) q (λ _. with_open (moved o) q))) (channels_after h)) t)
-      (ap (λ z. where_passed z s (λ _. give_after s word strobe)) t)
+      refused_step m h a e _ _ _ o (rw t) (rw t) (rw t)
 
   -- an open write
   module _ (g : Going) (open_is : opened Write h ≡ Some g) where
@@ -73,32 +67,25 @@ module _ (m : Board) (h : History) (master word strobe : ℕ) (mark : Bool) wher
 
     test_is : put_test q.current s master mark ≡ cond (eqb g.from.request.master master) (cond (beq mark (is_last g)) (Ok (open_as g)) (Err LastMark)) (Err OtherMaster)
     unfolding queue_after
-    test_is =
-        ap (λ o. put_test (open_of o) s master mark) open_is
-        ∙ ap (λ t. cond (eqb g.from.request.master master) (cond t (cond (beq mark (is_last g)) (Ok (open_as g)) (Err LastMark)) (Err Place)) (Err OtherMaster))
-        (ap (is_at b k) stands_there ∙ is_at_self b k)
+    test_is = rw (open_is, is_at_self b k)
 
     owed_is : owed m h a ≡ owed_put_at m h (Some g) master strobe mark
     unfolding owed
-    owed_is = ap (λ o. owed_put_at m h o master strobe mark) open_is
+    owed_is = rw open_is
 
     -- the slave's answer is passed on
     carried_on : (z : Result Given Rattle.slave.specs.declared.answer.SlaveFault.SlaveFault) → put_test q.current s master mark ≡ Ok (open_as g) → give_answer s word strobe ≡ z
         → (put_answer q s master word strobe mark ≡ passed (carried z) (λ x. Ok (put_given (open_as g) x)))
         × (put_after q s master word strobe mark ≡ where_passed (carried z) q (λ _. with_open (moved (open_as g)) q))
         × (put_slave q s master word strobe mark ≡ give_after s word strobe)
-    carried_on z t e = (
-      ap (λ z. passed z (λ o. passed (carried (give_answer s word strobe)) (λ g. Ok (put_given o g)))) t ∙ ap (λ z. passed (carried z) (λ x. Ok (put_given (open_as g) x))) e,
-      ap (λ z. where_passed z q (λ o. where_passed (carried (give_answer s word strobe)) q (λ _. with_open (moved o) q))) t ∙ ap (λ z. where_passed (carried z) q (λ _. with_open (moved (open_as g)) q)) e,
-      ap (λ z. where_passed z s (λ _. give_after s word strobe)) t,
-    )
+    carried_on z t e = (rw (t, e), rw (t, e), rw t)
 
     -- a strobe outside the beat's lanes
     strays : put_test q.current s master mark ≡ Ok (open_as g) → owed m h a ≡ Err (Slave Strobe) → stray 8 at to strobe ≡ true → PutStep
     strays t o z =
         let e = give_stray s b k word strobe refl stands_there z in
         let c = carried_on (Err Strobe) t e.0 in
-        refused_step m h a (Slave Strobe) _ _ _ o c.0 (ap (λ v. with_queue Write v (channels_after h)) c.1) (c.2 ∙ e.1)
+        refused_step m h a (Slave Strobe) _ _ _ o c.0 (rw c.1) (c.2 ∙ e.1)
 
     -- an accepted put
     abbrev x : Event
@@ -108,49 +95,36 @@ module _ (m : Board) (h : History) (master word strobe : ℕ) (mark : Bool) wher
     read_quiet = record { no_ask = refl; still = record { no_grant = refl; no_beat = refl } }
 
     others : (d : Channel) → same d Write ≡ false → Quiet d x
-    others Write e = absurd (true≢false e)
+    others Write e = cc
     others Read e = read_quiet
 
     -- the response of the beat, and the worst so far
     worst_is : worst_after s b k strobe ≡ worse (worst m h) (response_written m b k strobe)
     unfolding response_written
-    worst_is = ap (λ o. worse (worst_kept o (worst m h)) (write_worst s at to strobe)) open_is
+    worst_is = rw open_is
 
     given_is : put_given (open_as g) (gave_answer s b k strobe) ≡ put_of m h g strobe
-    given_is =
-        into (ltb (k + 1) b.count) (worst_after s b k strobe)
-        ∙ flipped k b.count (opened_current Write h g open_is).1 (More (left b k)) (Done g.from.request.master g.from.request.id (worst_after s b k strobe))
-        ∙ ap (λ r. cond (is_last g) (Done g.from.request.master g.from.request.id r) (More (left b k))) worst_is
-      where
-        into : (t : Bool) (r : Response) → put_given (open_as g) (cond t (GivenMore (left b k)) (GivenDone r)) ≡ cond t (More (left b k)) (Done g.from.request.master g.from.request.id r)
-        into true r = refl
-        into false r = refl
+    given_is = ⊎_elim (λ e. rw (e.0, e.1)) (λ e. rw (e.0, e.1, worst_is)) (last_or_more k b.count (opened_current Write h g open_is).1)
 
     bytes_are : written s at to word strobe ≡ stored m (x ∷ h)
     unfolding stored strobes
-    bytes_are = fun_ext (λ n. ap (λ o. cond (strobes_at o a n && is_plain (m.kinds n)) (lane_byte word (n % 8)) (stored m h n)) (sym (opened_current Write h g open_is).0))
+    bytes_are = fun_ext (λ n. rw (opened_current Write h g open_is).0)
 
     worst_kept_is : cond (ltb (k + 1) b.count) (worst_after s b k strobe) Okay ≡ worst_kept (opened Write (x ∷ h)) (worst m (x ∷ h))
     worst_kept_is =
-        sym (ap (λ o. worst_kept o (worst m (x ∷ h))) (opened_moved Write x h g refl refl open_is)
-        ∙ ap (worst_kept (cond (ltb (k + 1) b.count) (Some (next g)) None)) (worst_put m x h refl ∙ ap (λ o. worse (worst m h) (response_at m o a)) (opened_current Write h g open_is).0 ∙ sym worst_is)
-        ∙ into (ltb (k + 1) b.count))
-      where
-        into : (t : Bool) → worst_kept (cond t (Some (next g)) None) (worst_after s b k strobe) ≡ cond t (worst_after s b k strobe) Okay
-        into true = refl
-        into false = refl
+        rw (opened_moved Write x h g refl refl open_is, worst_put m x h refl, (opened_current Write h g open_is).0, worst_is)
+        (elim (ltb (k + 1) b.count) as (λ t. cond t (worse (worst m h) (response_written m b k strobe)) Okay ≡ worst_kept (cond t (Some (next g)) None) (worse (worst m h) (response_written m b k strobe))) [ true ↦ refl | false ↦ refl ])
 
     slave_is : gave_after s b k word strobe ≡ slave_after m (x ∷ h)
-    slave_is =
-        slave_same m _ _ _ _ _ _ _ _ bytes_are (sym (stand_moved Write x h g refl refl open_is)) worst_kept_is (ap stand_of (sym (opened_quiet Read x h read_quiet.still)))
+    slave_is = rw (bytes_are, stand_moved Write x h g refl refl open_is, ← worst_kept_is, opened_quiet Read x h read_quiet.still)
 
     moves : put_test q.current s master mark ≡ Ok (open_as g) → owed m h a ≡ Ok (put_of m h g strobe) → stray 8 at to strobe ≡ false → PutStep
     moves t o z =
         let e = give_taken s b k word strobe refl stands_there z in
         let c = carried_on (Ok (gave_answer s b k strobe)) t e.0 in
-        accepted_step m h a (put_of m h g strobe) _ _ _ o (c.0 ∙ ap (λ v. Ok v) given_is)
-        (ap (λ v. with_queue Write v (channels_after h)) c.1 ∙ channels_with Write x h _ (queue_moved Write x h g refl refl refl open_is) others)
-        (c.2 ∙ e.1 ∙ slave_is)
+        accepted_step m h a (put_of m h g strobe) _ _ _ o (rw c.0 (ap (λ v. Ok v) given_is))
+        (rw c.1 (channels_with Write x h _ (queue_moved Write x h g refl refl refl open_is) others))
+        (rw (c.2, e.1) slave_is)
 
     open_put : (i j l : Bool) → eqb g.from.request.master master ≡ i → beq mark (is_last g) ≡ j → stray 8 at to strobe ≡ l → PutStep
     open_put false j l ei ej el = stopped OtherMaster (owed_is ∙ rw ei) (test_is ∙ rw ei)
@@ -161,7 +135,7 @@ module _ (m : Board) (h : History) (master word strobe : ℕ) (mark : Bool) wher
   -- a put by what is open
   puts : (o : Option Going) → opened Write h ≡ o → PutStep
   unfolding owed queue_after
-  puts None e = stopped NotOpen (ap (λ o. owed_put_at m h o master strobe mark) e) (ap (λ o. put_test (open_of o) s master mark) e)
+  puts None e = stopped NotOpen (rw e) (rw e)
   puts (Some g) e = open_put g e (eqb g.from.request.master master) (beq mark (is_last g)) (stray 8 (address_of (burst_of g) g.beats) (last_of (burst_of g) g.beats) strobe) refl refl refl
 
 -- a put

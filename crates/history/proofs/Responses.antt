@@ -1,6 +1,6 @@
 -- The worst response of the puts since the last grant of a write.
 use Rattle.std.proofs.Common.{◌≡◌, ℕ, ◌≤◌, true, false, ltb, ◌⊎◌, [], ◌∷◌, sym, refl, ap, subst, inl, inr, ⊎_elim, arith}
-use Rattle.std.proofs.lemmas.Bool.{cases_Bool, cond-true, cond-false, ltb-true, ltb-false}
+use Rattle.std.proofs.lemmas.Bool.{cases_Bool, ltb-true, ltb-false}
 use Rattle.slave.specs.declared.answer.Response.{Response}
 use Rattle.slave.specs.declared.answer.Response.TheVariants.{Okay}
 use Rattle.slave.specs.declared.answer.Channel.TheVariants.{Write}
@@ -11,19 +11,10 @@ use Rattle.history.specs.Law.{WorstAgrees}
 
 -- the worse of two is one of them, and neither is worse than it
 worse_is : (a b : Response) → ((worse a b ≡ a) ⊎ (worse a b ≡ b)) × (rank a ≤ rank (worse a b)) × (rank b ≤ rank (worse a b))
-worse_is a b = go (cases_Bool (ltb (rank a) (rank b)))
-  where
-    go : (ltb (rank a) (rank b) ≡ true) ⊎ (ltb (rank a) (rank b) ≡ false) → ((worse a b ≡ a) ⊎ (worse a b ≡ b)) × (rank a ≤ rank (worse a b)) × (rank b ≤ rank (worse a b))
-    go (inl e) =
-        let w : worse a b ≡ b = cond-true (ltb (rank a) (rank b)) b a e in
-        let l = ltb-true (rank a) (rank b) e in
-        let r : rank (worse a b) ≡ rank b = ap rank w in
-        (inr w, omega arith, omega arith)
-    go (inr e) =
-        let w : worse a b ≡ a = cond-false (ltb (rank a) (rank b)) b a e in
-        let l = ltb-false (rank a) (rank b) e in
-        let r : rank (worse a b) ≡ rank a = ap rank w in
-        (inl w, omega arith, omega arith)
+worse_is a b =
+    ⊎_elim (λ e. let w : worse a b ≡ b = rw e in let r = ap rank w in let l = ltb-true (rank a) (rank b) e in (inr w, omega arith, omega arith))
+    (λ e. let w : worse a b ≡ a = rw e in let r = ap rank w in let l = ltb-false (rank a) (rank b) e in (inl w, omega arith, omega arith))
+    (cases_Bool (ltb (rank a) (rank b)))
 
 module _ (m : Board) where
   -- the response of a put

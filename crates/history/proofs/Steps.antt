@@ -1,5 +1,5 @@
 -- What one act leaves of a run.
-use Rattle.std.proofs.Common.{◌≡◌, ◌∷◌, Ok, Err, Result, sym, refl, ap, ◌∙◌}
+use Rattle.std.proofs.Common.{◌≡◌, ◌∷◌, Ok, Err, Result, refl}
 use Rattle.slave.specs.declared.answer.Channel.{Channel}
 use Rattle.slave.specs.declared.answer.Channel.TheVariants.{Write, Read}
 use Rattle.fabric.specs.declared.types.Request.{Request}
@@ -8,8 +8,8 @@ use Rattle.fabric.specs.declared.types.Act.TheVariants.{Request as Ask}
 use Rattle.fabric.specs.declared.types.Answer.{Answer}
 use Rattle.fabric.specs.declared.types.FabricFault.{FabricFault}
 use Rattle.slave.specs.Meaning.{Meaning, stand_at}
-use Rattle.fabric.specs.Channels.{Channels, with_queue}
-use Rattle.history.specs.Tracks.{stand_of, queue_after, channels_after, slave_after, act_answer, act_after, act_slave}
+use Rattle.fabric.specs.Channels.{Channels}
+use Rattle.history.specs.Tracks.{stand_of, channels_after, slave_after, act_answer, act_after, act_slave}
 use Rattle.history.specs.History.{History}
 use Rattle.history.specs.Bytes.{Board}
 use Rattle.history.specs.Owed.{owed}
@@ -25,29 +25,16 @@ pub record Step (m : Board) (h : History) (a : Act) (r : Result Answer FabricFau
 -- a refused act leaves all as it was
 pub refused_step : (m : Board) (h : History) (a : Act) (e : FabricFault) (r : Result Answer FabricFault) (c : Channels) (s : Meaning)
     → owed m h a ≡ Err e → r ≡ Err e → c ≡ channels_after h → s ≡ slave_after m h → Step m h a r c s
-refused_step m h a e r c s o x y z = record {
-  answers = x ∙ sym o;
-  after = y ∙ channels_refused a e h ∙ ap (λ v. channels_after (event a v ∷ h)) (sym o);
-  slave = z ∙ slave_refused m a e h ∙ ap (λ v. slave_after m (event a v ∷ h)) (sym o);
-}
+refused_step m h a e r c s o x y z = record { answers = rw (x, o); after = rw (y, o) (channels_refused a e h); slave = rw (z, o) (slave_refused m a e h) }
 
 -- an accepted act leaves what the longer history says
 pub accepted_step : (m : Board) (h : History) (a : Act) (w : Answer) (r : Result Answer FabricFault) (c : Channels) (s : Meaning)
     → owed m h a ≡ Ok w → r ≡ Ok w → c ≡ channels_after (event a (Ok w) ∷ h) → s ≡ slave_after m (event a (Ok w) ∷ h) → Step m h a r c s
-accepted_step m h a w r c s o x y z = record {
-  answers = x ∙ sym o;
-  after = y ∙ ap (λ v. channels_after (event a v ∷ h)) (sym o);
-  slave = z ∙ ap (λ v. slave_after m (event a v ∷ h)) (sym o);
-}
+accepted_step m h a w r c s o x y z = record { answers = rw (x, o); after = rw (y, o); slave = rw (z, o) }
 
 -- an act of the fabric keeps to the run
 abbrev pub ActStep : Board → History → Act → Type 0
 ActStep m h a = Step m h a (act_answer (channels_after h) (slave_after m h) a) (act_after (channels_after h) (slave_after m h) a) (act_slave (channels_after h) (slave_after m h) a)
-
--- a channel is what it was
-pub same_queue : (ch : Channel) (h : History) → with_queue ch (queue_after ch h) (channels_after h) ≡ channels_after h
-same_queue Write h = refl
-same_queue Read h = refl
 
 -- the slave stands where the history says
 pub stand_is : (m : Board) (ch : Channel) (h : History) → stand_at (slave_after m h) ch ≡ stand_of (Rattle.history.specs.History.opened ch h)

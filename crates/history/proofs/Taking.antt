@@ -1,24 +1,21 @@
 -- A take of the fabric in a run.
-use Rattle.std.proofs.Common.{◌≡◌, ℕ, false, cond, ◌∷◌, Some, None, Ok, Err, Option, sym, refl, ap, ◌∙◌}
-use Rattle.std.proofs.lemmas.Bool.{true≢false}
+use Rattle.std.proofs.Common.{◌≡◌, ℕ, false, ◌∷◌, Some, None, Ok, Err, Option, refl, ap}
 use Rattle.burst.specs.declared.raw.RawBurst.{RawBurst}
 use Rattle.slave.specs.declared.answer.Channel.{Channel}
 use Rattle.slave.specs.declared.answer.Channel.TheVariants.{Write, Read}
 use Rattle.fabric.specs.declared.types.Act.TheVariants.{Take}
 use Rattle.fabric.specs.declared.types.FabricFault.{FabricFault}
 use Rattle.slave.specs.Meaning.{Meaning, busy, is_at}
-use Rattle.fabric.specs.Channels.{Queue, with_queue, with_open}
-use Rattle.history.specs.Tracks.{open_of, stand_of, worst_kept, queue_after, channels_after, slave_after}
+use Rattle.fabric.specs.Channels.{Queue, with_queue}
+use Rattle.history.specs.Tracks.{stand_of, queue_after, channels_after, slave_after}
 use Rattle.slave.specs.Acts.{past, took_answer}
-use Rattle.slave.specs.Acts.{take_answer as slave_take_answer, take_after as slave_take_after}
 use Rattle.slave.proofs.Calls.{take_taken, is_at_self}
-use Rattle.fabric.specs.declared.types.FabricFault.TheVariants.{NotOpen, Place}
-use Rattle.fabric.specs.Rows.{moved}
-use Rattle.fabric.specs.Acts.{passed, where_passed, carried, take_test, take_shown, take_answer, take_after, take_slave}
+use Rattle.fabric.specs.declared.types.FabricFault.TheVariants.{NotOpen}
+use Rattle.fabric.specs.Acts.{take_test, take_shown, take_answer, take_after, take_slave}
 use Rattle.history.specs.History.{Event, History, same, Going, burst_of, opened}
-use Rattle.history.specs.Bytes.{Board, shown, word_read, response_read, worst}
-use Rattle.history.specs.Owed.{owed, owed_take_at, take_of}
-use Rattle.history.proofs.Quiet.{event, Quiet, opened_quiet, channels_with, stored_quiet, worst_quiet, slave_same}
+use Rattle.history.specs.Bytes.{Board, shown, word_read, response_read}
+use Rattle.history.specs.Owed.{owed, take_of}
+use Rattle.history.proofs.Quiet.{event, Quiet, opened_quiet, channels_with, stored_quiet, worst_quiet}
 use Rattle.history.proofs.Steps.{Step, ActStep, refused_step, accepted_step}
 use Rattle.history.proofs.Moving.{open_as, stand_moved, queue_moved}
 
@@ -35,9 +32,7 @@ module _ (m : Board) (h : History) where
   -- refused by a test of the fabric
   stopped : (e : FabricFault) → owed m h Take ≡ Err e → take_test q.current s ≡ Err e → TakeStep
   stopped e o t =
-      refused_step m h Take e _ _ _ o (ap (λ z. passed z (λ o. passed (carried (slave_take_answer s)) (λ x. Ok (take_shown o x)))) t)
-      (ap (λ z. with_queue Read (where_passed z q (λ o. where_passed (carried (slave_take_answer s)) q (λ _. with_open (moved o) q))) (channels_after h)) t)
-      (ap (λ z. where_passed z s (λ _. slave_take_after s)) t)
+      refused_step m h Take e _ _ _ o (rw t) (rw t) (rw t)
 
   -- an open read
   module _ (g : Going) (open_is : opened Read h ≡ Some g) where
@@ -55,16 +50,14 @@ module _ (m : Board) (h : History) where
 
     test_is : take_test q.current s ≡ Ok (open_as g)
     unfolding queue_after
-    test_is =
-        ap (λ o. take_test (open_of o) s) open_is
-        ∙ ap (λ t. cond t (Ok (open_as g)) (Err Place)) (ap (is_at b k) stands_there ∙ is_at_self b k)
+    test_is = rw (open_is, is_at_self b k)
 
     write_quiet : Quiet Write x
     write_quiet = record { no_ask = refl; still = record { no_grant = refl; no_beat = refl } }
 
     others : (d : Channel) → same d Read ≡ false → Quiet d x
     others Write e = write_quiet
-    others Read e = absurd (true≢false e)
+    others Read e = cc
 
     -- the beat that the slave shows
     shown_is : take_shown (open_as g) (took_answer s b k) ≡ take_of m h g
@@ -74,27 +67,20 @@ module _ (m : Board) (h : History) where
     slave_is : Rattle.slave.specs.Meaning.with_read (past b k) s ≡ slave_after m (x ∷ h)
     slave_is =
         let w = write_quiet.still in
-        slave_same m _ _ _ _ _ _ _ _ (sym (stored_quiet m x h refl)) (ap stand_of (sym (opened_quiet Write x h w)))
-        (sym (ap (λ o. worst_kept o (worst m (x ∷ h))) (opened_quiet Write x h w) ∙ ap (worst_kept (opened Write h)) (worst_quiet m x h w)))
-        (sym (stand_moved Read x h g refl refl open_is))
+        rw (stored_quiet m x h refl, opened_quiet Write x h w, worst_quiet m x h w, stand_moved Read x h g refl refl open_is)
 
     moves : TakeStep
     unfolding owed
     moves =
         let e = take_taken s b k refl stands_there in
-        accepted_step m h Take (take_of m h g) _ _ _ (ap (owed_take_at m h) open_is)
-        (ap (λ z. passed z (λ o. passed (carried (slave_take_answer s)) (λ x. Ok (take_shown o x)))) test_is
-        ∙ ap (λ z. passed (carried z) (λ x. Ok (take_shown (open_as g) x))) e.0 ∙ ap (λ v. Ok v) shown_is)
-        (ap (λ v. with_queue Read v (channels_after h))
-        (ap (λ z. where_passed z q (λ o. where_passed (carried (slave_take_answer s)) q (λ _. with_open (moved o) q))) test_is
-        ∙ ap (λ z. where_passed (carried z) q (λ _. with_open (moved (open_as g)) q)) e.0)
-        ∙ channels_with Read x h _ (queue_moved Read x h g refl refl refl open_is) others)
-        (ap (λ z. where_passed z s (λ _. slave_take_after s)) test_is ∙ e.1 ∙ slave_is)
+        accepted_step m h Take (take_of m h g) _ _ _ (rw open_is) (rw (test_is, e.0) (ap (λ v. Ok v) shown_is))
+        (rw (test_is, e.0) (channels_with Read x h _ (queue_moved Read x h g refl refl refl open_is) others))
+        (rw (test_is, e.1) slave_is)
 
   -- a take by what is open
   takes : (o : Option Going) → opened Read h ≡ o → TakeStep
   unfolding owed queue_after
-  takes None e = stopped NotOpen (ap (owed_take_at m h) e) (ap (λ o. take_test (open_of o) s) e)
+  takes None e = stopped NotOpen (rw e) (rw e)
   takes (Some g) e = moves g e
 
 -- a take

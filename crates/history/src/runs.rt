@@ -1,21 +1,20 @@
-// Acts one by one, and whole runs.
+// Acts one by one, and whole runs. Each call names the slave beside the fabric, as a rule of the project demands, so the two are not made one struct.
 ghost use Rattle.std.specs.Prelude.{◌≡◌, ◌≤◌, false, [], length, is_ok, OnOk};
-ghost use Rattle.fabric.specs.Acts.{create_answer};
 ghost use Rattle.fabric.specs.Channels.{channels_of};
 ghost use Rattle.history.specs.Bytes.{board};
 ghost use Rattle.history.specs.Runs.{Performed, begin_answer, run_answer, run_number};
-ghost use Rattle.history.specs.Tracks.{Extends, GoesOn, Tracks, act_answer, act_after, act_slave};
+ghost use Rattle.history.specs.Tracks.{Extends, Tracks, act_answer, act_after, act_slave};
 
-use fabric::{Act, Answer, Fabric, FabricFault, Outcome};
+use fabric::{Act, Fabric, Outcome};
 use slave::Slave;
 
 // Why a run does not begin.
 #[derive(Clone, Copy, PartialEq, Eq, Debug)]
 pub enum RunFault {
     // the slave is dead, not idle, not full or not of width 8
-    Below,
+    Below = 18,
     // there is less room for answers than there are acts
-    Short,
+    Short = 22,
 }
 
 impl RunFault {
@@ -23,47 +22,28 @@ impl RunFault {
     pub fn number(self) -> u8
         ensures { result ≡ run_number self }
     {
-        match self {
-            RunFault::Below => 18,
-            RunFault::Short => 22,
-        }
+        self as u8
     }
 }
 
-// Does nothing; its contract says that a run goes on by each act.
-fn goes_on()
-    ensures { GoesOn }
-{}
-
-// Empties the fabric over the slave. Where that is accepted, a run begins.
-fn create<S: Slave>(fabric: &mut Fabric, slave: &S) -> Result<(), FabricFault>
-    ensures answer { result ≡ create_answer (S.Slave.meaning slave.now) }
-    ensures run { OnOk result (Tracks (board (S.Slave.meaning slave.now)) [] (channels_of fabric.new) (S.Slave.meaning slave.now)) }
-    ensures refused { is_ok result ≡ false → fabric.new ≡ fabric.old }
-{
-    fabric.create(slave)
-}
-
 // Begins a run: empties the fabric over a live, idle and full slave of width 8.
+#[tactic(auto, using(crate::proofs::Running::begins))]
 pub fn begin<S: Slave>(fabric: &mut Fabric, slave: &S) -> Result<(), RunFault>
     ensures answer { result ≡ begin_answer (S.Slave.meaning slave.now) }
     ensures run { OnOk result (Tracks (board (S.Slave.meaning slave.now)) [] (channels_of fabric.new) (S.Slave.meaning slave.now)) }
     ensures refused { is_ok result ≡ false → fabric.new ≡ fabric.old }
 {
-    match create(fabric, slave) {
-        Ok(()) => Ok(()),
-        Err(_) => Err(RunFault::Below),
-    }
+    fabric.create(slave).map_err(|_| RunFault::Below)
 }
 
 // One act on a fabric and its slave. In a run it has the answer that is owed to it after what came before, and the run goes on.
+#[tactic(auto, using(crate::proofs::Acting::goes_on))]
 pub fn act<S: Slave>(fabric: &mut Fabric, slave: &mut S, act: Act) -> Outcome
     ensures answer { result ≡ act_answer (channels_of fabric.old) (S.Slave.meaning slave.old) act }
     ensures after { channels_of fabric.new ≡ act_after (channels_of fabric.old) (S.Slave.meaning slave.old) act }
     ensures slave { S.Slave.meaning slave.new ≡ act_slave (channels_of fabric.old) (S.Slave.meaning slave.old) act }
     ensures run { Extends (channels_of fabric.old) (S.Slave.meaning slave.old) act result (channels_of fabric.new) (S.Slave.meaning slave.new) }
 {
-    goes_on();
     match act {
         Act::Request(channel, request) => fabric.request(channel, request),
         Act::Grant(channel) => fabric.grant(slave, channel),
@@ -83,8 +63,9 @@ fn perform<S: Slave>(fabric: &mut Fabric, slave: &mut S, acts: &[Act], answers: 
     requires run { Tracks (board (S.Slave.meaning slave.old)) [] (channels_of fabric.old) (S.Slave.meaning slave.old) }
     ensures { Performed (board (S.Slave.meaning slave.old)) acts.now answers.old answers.new (channels_of fabric.new) (S.Slave.meaning slave.new) }
 {
-    for i in 0..acts.len() {
-        answers[i] = act(fabric, slave, acts[i]);
+    // by index: after `answers.iter_mut().zip(acts)` a proof knows how many answers there are, and not which
+    for (i, next) in acts.iter().enumerate() {
+        answers[i] = act(fabric, slave, *next);
     }
 }
 

@@ -1,8 +1,6 @@
 -- Which memory may be made a slave.
-use Rattle.std.specs.Prelude.{ℕ, ◌%◌, Bool, cond, ◌&&◌, Ok, Err, Result, ◌==◌, nat_le}
-use Rattle.burst.specs.declared.raw.Width.{Width}
-use Rattle.slave.specs.declared.making.MakeFault.{MakeFault}
-use Rattle.slave.specs.Making.{make_number, is_width}
+use Rattle.std.specs.Prelude.{ℕ, ◌%◌, Bool, cond, ◌&&◌, ◌==◌, nat_le}
+use Rattle.slave.specs.Making.{is_width}
 
 -- a most is 1 to 256 beats
 abbrev pub is_most : ℕ → Bool
@@ -15,8 +13,3 @@ is_memory n = (n % 4096 == 0 && nat_le 4096 n) && nat_le n 1048576
 -- the number of the first rule that the width, the most and the memory's length break, or 0
 abbrev pub make_refusal : ℕ → ℕ → ℕ → ℕ
 make_refusal w most n = cond (is_width w && is_most most) (cond (is_memory n) 0 17) 16
-
--- the number that an answer of the check stands for
-abbrev pub answered : Result Width MakeFault → ℕ
-answered (Ok w) = 0
-answered (Err e) = make_number e

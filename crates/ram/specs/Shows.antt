@@ -1,26 +1,28 @@
 -- What memory shows as a slave.
 use Rattle.std.specs.Prelude.{ℕ, ◌%◌, true, false, cond, List, length, vec_items, ◌==◌, slice_index}
+use Rattle.std.specs.Option.{option_map_or}
 use Rattle.burst.specs.Rules.{width_bytes}
 use Rattle.slave.specs.declared.answer.Response.{Response}
 use Rattle.slave.specs.declared.answer.Response.TheVariants.{Okay}
-use Rattle.slave.specs.Meaning.{Meaning, Stand, idle, busy, dead, told}
-use Rattle.ram.specs.declared.state.Ram.{Ram}
+use Rattle.slave.specs.Channels.{worst_at}
+use Rattle.slave.specs.Meaning.{Meaning, Stand, idle, dead, told}
+use Rattle.ram.specs.declared.port.Port.{Port}
+use Rattle.ram.specs.declared.calls.Ram.{Ram}
 use Rattle.ram.specs.Memory.{kind_at}
 use Rattle.ram.specs.Making.{make_refusal}
-
--- the worst response of a channel, OKAY where it is idle
-abbrev pub worst_at : Stand → Response → Response
-worst_at idle r = Okay
-worst_at (busy b k) r = r
 
 -- live memory of these bytes, simple, with a width and a most
 abbrev pub shows : List ℕ → ℕ → ℕ → Stand → Response → Stand → Meaning
 shows xs w most write worst read =
     record { live = true; width = w; most = most; full = false; bytes = λ a. slice_index xs a % 256; kinds = kind_at xs; write = write; worst = worst_at write worst; read = read }
 
--- what memory shows
+-- what memory of these bytes shows through a port
+abbrev pub through : Port → List ℕ → Meaning
+through p xs = shows xs (width_bytes p.width) p.most (told p.channels.write.place) p.channels.write.worst (told p.channels.read.place)
+
+-- what memory shows: without a port it is dead
 abbrev pub ram_meaning : Ram → Meaning
-ram_meaning r = cond r.live (shows (vec_items r.memory) (width_bytes r.width) r.most (told r.write.place) r.write.worst (told r.read.place)) dead
+ram_meaning r = option_map_or (λ p. through p (vec_items r.memory)) r.port dead
 
 -- what is made of memory: idle, and dead where the check refuses
 abbrev pub ram_made : List ℕ → ℕ → ℕ → Meaning

@@ -4,25 +4,20 @@
 mod calls;
 mod making;
 mod memory;
-mod state;
+mod port;
 
+pub use calls::Ram;
 pub use making::check;
-pub use state::Ram;
 
 #[cfg(test)]
 mod tests {
     use super::*;
-    use burst::RawBurst;
-    use slave::{Channel, Given, MakeFault, Response, Slave, SlaveFault};
+    use burst::{BurstKind, RawBurst};
+    use slave::{Channel, Given, Response, Slave, SlaveFault};
     use std::test::Fail;
 
     fn incr(start: u32, size: u8, count: u16) -> RawBurst {
-        RawBurst {
-            kind: 1,
-            start,
-            size,
-            count,
-        }
+        RawBurst::new(BurstKind::Incr, start, size, count)
     }
 
     #[test]
@@ -43,12 +38,7 @@ mod tests {
     #[test]
     fn refusals_in_order(rt: HostRuntime) -> Result<(), Fail> {
         let mut ram = Ram::new(vec![in rt.alloc(); 0u8; 4096]?, 4, 8);
-        let wrap = RawBurst {
-            kind: 2,
-            start: 0,
-            size: 2,
-            count: 4,
-        };
+        let wrap = RawBurst::new(BurstKind::Wrap, 0, 2, 4);
         assert_eq!(rt; ram.open(Channel::Read, wrap), Err(SlaveFault::Simple));
         assert_eq!(rt;
             ram.open(Channel::Read, incr(0, 2, 9)),
@@ -84,10 +74,7 @@ mod tests {
             (8, 1, 1_048_576, 0),
         ];
         for (width, most, length, number) in table {
-            let found = match check(width, most, length) {
-                Ok(_) => 0,
-                Err(fault) => fault.number(),
-            };
+            let found = check(width, most, length).map_or_else(|fault| fault.number(), |_| 0);
             assert_eq!(rt; found, number);
         }
     }

@@ -1,17 +1,17 @@
--- The record of the bursts opened on a slave: slots in order, of which the first so many are filled.
-use Rattle.std.specs.Prelude.{ℕ, ◌+◌, cond, ◌&&◌, List, Some, None, Option, nat_lt, slice_index_or, slice_set}
+-- The record of the bursts opened on a slave, in order of opening.
+use Rattle.std.specs.Prelude.{ℕ, ◌+◌, cond, List, [], ◌∷◌, ◌++◌, length, Option, nat_lt, slice_get}
 use Rattle.slave.specs.declared.answer.Channel.TheVariants.{Write}
 use Rattle.recorder.specs.declared.record.Opened.{Opened}
 
--- the slots
+-- the slots: so many bursts are recorded at most
 abbrev pub slots : ℕ
 slots = 256
 
--- the slots after one more burst is noted behind the n before; none is where they are full
-abbrev pub noted : List Opened → ℕ → Opened → List Opened
-noted l n x = cond (nat_lt n slots) (slice_set l n x) l
+-- the record after one more burst is noted; none is where the slots are full
+abbrev pub noted : List Opened → Opened → List Opened
+noted l x = cond (nat_lt (length l) slots) (l ++ x ∷ []) l
 
--- how many are filled then
+-- how many are filled after one more, of n before
 abbrev pub counted : ℕ → ℕ
 counted n = cond (nat_lt n slots) (n + 1) n
 
@@ -19,6 +19,6 @@ counted n = cond (nat_lt n slots) (n + 1) n
 abbrev pub empty : Opened
 empty = record { channel = Write; burst = record { kind = 0; start = 0; size = 0; count = 0 } }
 
--- the i-th burst of the n that are noted
-abbrev pub recorded : List Opened → ℕ → ℕ → Option Opened
-recorded l n i = cond (nat_lt i n && nat_lt i slots) (Some (slice_index_or l i empty)) None
+-- the i-th burst that is noted, from 0
+abbrev pub recorded : List Opened → ℕ → Option Opened
+recorded l i = slice_get l i

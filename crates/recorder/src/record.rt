@@ -1,7 +1,9 @@
 // The record of the bursts opened on a slave.
+ghost use Rattle.arrayvec.specs.ArrayVec.{array_vec_len};
 ghost use Rattle.recorder.specs.Record.{empty, recorded};
-ghost use Rattle.std.specs.Prelude.{◌≡◌, replicate};
+ghost use Rattle.std.specs.Prelude.{◌≡◌, []};
 
+use arrayvec::ArrayVec;
 use burst::RawBurst;
 use slave::Channel;
 
@@ -12,57 +14,53 @@ pub struct Opened {
     pub burst: RawBurst,
 }
 
-// How many bursts are recorded at most; later ones are passed down and not noted.
-pub(crate) const SLOTS: usize = 256;
+// A slot that is not filled. By hand: a channel and a raw burst have no default of their own.
+impl Default for Opened {
+    ghost is_default = { λ x. x ≡ empty };
 
-// A slot that is not filled.
-const EMPTY: Opened = Opened {
-    channel: Channel::Write,
-    burst: RawBurst {
-        kind: 0,
-        start: 0,
-        size: 0,
-        count: 0,
-    },
-};
+    fn default() -> Opened {
+        Opened {
+            channel: Channel::Write,
+            burst: RawBurst {
+                kind: 0,
+                start: 0,
+                size: 0,
+                count: 0,
+            },
+        }
+    }
+}
 
-// A slave with a record of the bursts that it took.
+// A slave with a record of the bursts that it took: of the first 256, and later ones are passed down and not noted.
 #[derive(Drop)]
 pub struct Recorder<S> {
     pub below: S,
-    pub(crate) record: [Opened; 256],
-    pub(crate) count: usize,
+    pub(crate) record: ArrayVec<Opened, 256>,
 }
 
 impl<S> Recorder<S> {
     // A slave with nothing recorded yet.
     pub fn new(below: S) -> Recorder<S>
         ensures same { result.below ≡ below }
-        ensures none { result.count ≡ 0 }
-        ensures slots { result.record ≡ replicate 256 empty }
+        ensures none { result.record.items ≡ [] }
     {
         Recorder {
             below,
-            record: [EMPTY; 256],
-            count: 0,
+            record: ArrayVec::new(),
         }
     }
 
     // How many bursts are recorded.
     pub fn count(&self) -> usize
-        ensures { result ≡ self.now.count }
+        ensures { result ≡ array_vec_len self.now.record }
     {
-        self.count
+        self.record.len()
     }
 
-    // The i-th burst recorded, from 0; none from the count on.
+    // The i-th burst recorded, from 0; none from the length on.
     pub fn opened(&self, i: usize) -> Option<Opened>
-        ensures { result ≡ recorded self.now.record self.now.count i }
+        ensures { result ≡ recorded self.now.record.items i }
     {
-        if i < self.count && i < SLOTS {
-            Some(self.record[i])
-        } else {
-            None
-        }
+        self.record.get(i).copied()
     }
 }

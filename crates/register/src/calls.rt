@@ -1,20 +1,21 @@
 // The register slice's calls as a slave.
-ghost use Rattle.register.specs.Holds.{slice_of};
+ghost use Rattle.register.specs.Holds.{shows};
 ghost use Rattle.register.specs.Laws.{slice_sound};
 
 use crate::slice::RegisterSlice;
-use burst::{RawBurst, Width};
+use burst::{MOST_BEATS, RawBurst, Width};
 use slave::{Channel, Given, Place, Response, Slave, SlaveFault};
 
 impl<S: Slave> Slave for RegisterSlice<S> {
-    ghost meaning = { λ p. slice_of p.live p.held (S.Slave.meaning p.below) };
+    ghost meaning = { shows S.meaning };
 
-    ghost sound = { λ x. slice_sound x.live x.held (S.Slave.meaning x.below) (S.Slave.sound x.below) };
+    ghost sound = { λ x. slice_sound x.live x.held (S.meaning x.below) (S.sound x.below) };
 
     fn live(&self) -> bool {
         self.alive()
     }
 
+    // each adapter says this for itself: a body in the trait could not reach the slave below
     fn width(&self) -> Width {
         if self.alive() {
             self.below.width()
@@ -24,34 +25,37 @@ impl<S: Slave> Slave for RegisterSlice<S> {
     }
 
     fn most(&self) -> u16 {
-        if self.alive() { self.below.most() } else { 256 }
+        if self.alive() {
+            self.below.most()
+        } else {
+            MOST_BEATS
+        }
     }
 
     fn full(&self) -> bool {
-        if self.alive() {
-            self.below.full()
-        } else {
-            true
-        }
+        !self.alive() || self.below.full()
     }
 
     fn place(&self, channel: Channel) -> Place {
         if !self.alive() {
-            return Place::Idle;
+            return None;
         }
         match channel {
             Channel::Read => self.below.place(Channel::Read),
+            // the write's place counts the held beat, so the two channels differ
             Channel::Write => self.write_place(),
         }
     }
 
+    // While a beat is held its burst is open.
+    #[tactic(auto, using(crate::specs::Laws::open_read))]
     fn open(&mut self, channel: Channel, burst: RawBurst) -> Result<(), SlaveFault> {
         if !self.alive() {
             return Err(SlaveFault::Dead);
         }
         match channel {
-            Channel::Read => self.open_read(burst),
-            Channel::Write => self.open_write(burst),
+            Channel::Write if self.held.is_some() => Err(SlaveFault::AlreadyOpen),
+            _ => self.below.open(channel, burst),
         }
     }
 
@@ -59,10 +63,8 @@ impl<S: Slave> Slave for RegisterSlice<S> {
         if !self.alive() {
             return Err(SlaveFault::Dead);
         }
-        match self.place(Channel::Write) {
-            Place::Idle => Err(SlaveFault::NotOpen),
-            Place::Open { burst, taken } => self.give_beat(burst, taken, word, strobe),
-        }
+        let at = self.write_place().ok_or(SlaveFault::NotOpen)?;
+        self.give_beat(at, word, strobe)
     }
 
     fn take(&mut self) -> Result<(u64, Response, u16), SlaveFault> {

@@ -1,7 +1,9 @@
 -- A field of a line is told by its bytes, whatever follows it.
-use Rattle.std.proofs.Common.{◌≡◌, ℕ, zero, suc, ◌+◌, ◌*◌, ◌/◌, ◌%◌, ◌^◌, ◌<◌, ◌≤◌, Bool, true, false, cond, eqb, List, [], ◌∷◌, ◌++◌, codes, decimal, sym, refl, ◌∙◌, append_assoc, pow-suc, arith, lit<}
+use Rattle.std.proofs.Common.{◌≡◌, ℕ, zero, suc, ◌*◌, ◌/◌, ◌%◌, ◌^◌, ◌<◌, ◌≤◌, Bool, true, false, cond, eqb, List, [], ◌∷◌, ◌++◌, codes, decimal, sym, refl, ap, ◌∙◌, append_assoc, pow-suc, arith, lit<}
 use Rattle.std.specs.Fmt.{digit_glyph}
-use Rattle.std.proofs.lemmas.Fmt.{decimal_by_steps, decimal_injective}
+use Rattle.std.specs.Char.{digit_value}
+use Rattle.std.specs.Str.Parse.{AllDigits}
+use Rattle.std.proofs.lemmas.Fmt.{decimal_injective, decimal_is_IsNumeral}
 use Rattle.std.proofs.lemmas.Bool.Decides.{nat_tests}
 use Rattle.slave.specs.declared.answer.Response.{Response}
 use Rattle.slave.specs.declared.answer.Response.TheVariants.{Okay, SlvErr, DecErr}
@@ -13,35 +15,22 @@ use Rattle.report.specs.Lines.{hex2, hex_bytes, response_name, layer_letter, sou
 pub differ : {A : Type 0} (a b : ℕ) (r s : List ℕ) → eqb a b ≡ false → a ∷ r ≡ b ∷ s → A
 differ a b r s d e = let h : a ≡ b = cc in absurd (grind arith)
 
--- every byte is a digit or comes after the digits
-abbrev Figures : List ℕ → Type 0
-Figures [] = Unit {0}
-Figures (d ∷ ds) = (48 ≤ d) × Figures ds
-
-figures_push : (ds : List ℕ) (d : ℕ) → 48 ≤ d → Figures ds → Figures (ds ++ d ∷ [])
-figures_push [] d h f = (h, tt)
-figures_push (x ∷ ds) d h f = (f.0, figures_push ds d h f.1)
-
--- a number is written in digits
-figures_decimal : (n : ℕ) → n < 2 ^ 64 → Figures (decimal n)
-figures_decimal = decimal_by_steps (λ n ds. Figures ds) (λ n h. (omega arith, tt)) (λ n ds h f. figures_push ds (48 + n % 10) (omega arith) f)
-
--- digits end where a byte below the digits stands
-figures_end : (end : ℕ) (xs ys r s : List ℕ) → end < 48 → Figures xs → Figures ys → xs ++ end ∷ r ≡ ys ++ end ∷ s → (xs ≡ ys) × (r ≡ s)
-figures_end end [] [] r s lt f g e = (refl, cc)
-figures_end end [] (y ∷ ys) r s lt f g e = let h : end ≡ y = cc in absurd (omega (arith, g.0))
-figures_end end (x ∷ xs) [] r s lt f g e = let h : x ≡ end = cc in absurd (omega (arith, f.0))
-figures_end end (x ∷ xs) (y ∷ ys) r s lt f g e =
+-- digits end where a byte stands that is none
+digits_end : (end : ℕ) (xs ys r s : List ℕ) → 10 ≤ digit_value end → AllDigits 10 xs → AllDigits 10 ys → xs ++ end ∷ r ≡ ys ++ end ∷ s → (xs ≡ ys) × (r ≡ s)
+digits_end end [] [] r s big f g e = (refl, cc)
+digits_end end [] (y ∷ ys) r s big f g e = let h : end ≡ y = cc in absurd (omega (arith, g.0, ap digit_value h))
+digits_end end (x ∷ xs) [] r s big f g e = let h : x ≡ end = cc in absurd (omega (arith, f.0, ap digit_value h))
+digits_end end (x ∷ xs) (y ∷ ys) r s big f g e =
     let h : x ≡ y = cc in
     let t : xs ++ end ∷ r ≡ ys ++ end ∷ s = cc in
-    let more = figures_end end xs ys r s lt f.1 g.1 t in
+    let more = digits_end end xs ys r s big f.1 g.1 t in
     let k = more.0 in
     (cc, more.1)
 
 -- a number in decimal, up to a blank or the line's end
-pub number_told : (end m n : ℕ) (r s : List ℕ) → end < 48 → m < 2 ^ 64 → n < 2 ^ 64 → decimal m ++ end ∷ r ≡ decimal n ++ end ∷ s → (m ≡ n) × (r ≡ s)
-number_told end m n r s lt hm hn e =
-    let both = figures_end end (decimal m) (decimal n) r s lt (figures_decimal m hm) (figures_decimal n hn) e in
+pub number_told : (end m n : ℕ) (r s : List ℕ) → 10 ≤ digit_value end → m < 2 ^ 64 → n < 2 ^ 64 → decimal m ++ end ∷ r ≡ decimal n ++ end ∷ s → (m ≡ n) × (r ≡ s)
+number_told end m n r s big hm hn e =
+    let both = digits_end end (decimal m) (decimal n) r s big (decimal_is_IsNumeral m hm).0.1 (decimal_is_IsNumeral n hn).0.1 e in
     (decimal_injective m n hm hn both.0, both.1)
 
 glyph_told : (a b : ℕ) → a < 16 → b < 16 → digit_glyph true a ≡ digit_glyph true b → a ≡ b

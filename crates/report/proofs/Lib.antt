@@ -1,4 +1,6 @@
 -- How a line grows, and that lines tell.
 pub mod Pushes
+pub mod Digits
+pub mod Lengths
 pub mod Fields
 pub mod Telling

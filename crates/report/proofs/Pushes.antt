@@ -1,28 +1,31 @@
--- One text after another.
-use Rattle.std.proofs.Common.{◌≡◌, ℕ, ◌+◌, ◌/◌, ◌%◌, ◌^◌, ◌<◌, ◌≤◌, List, [], ◌∷◌, ◌++◌, length, get_or, take, decimal, sym, ap, ◌∙◌, append_assoc, length-append}
-use Rattle.std.proofs.lemmas.List.{take_more}
-use Rattle.std.proofs.lemmas.Fmt.{decimal_digit, decimal_step}
+-- A line grows by one text after another, and what does not fit is cut off.
+use Rattle.std.proofs.Common.{◌≡◌, ℕ, zero, suc, ◌+◌, ◌-◌, ◌≤◌, min, List, [], ◌∷◌, ◌++◌, length, take, refl, sym, ap, ◌∙◌, append_assoc, arith}
+use Rattle.std.proofs.lemmas.List.{append-nil, take_all, take_min}
+use Rattle.std.proofs.Math.Nat.{min_comm}
+use Rattle.std.proofs.Math.Seq.{take-append-add}
+use Rattle.report.specs.declared.line.TheConstants.{LINE_BYTES}
+use Rattle.report.specs.Texts.{cut}
 
--- one byte more of s
-pub push_more : (v u t s : List ℕ) (i b : ℕ) → v ≡ u ++ b ∷ [] → u ≡ t ++ take i s → b ≡ get_or s i 0 → i < length s → v ≡ t ++ take (i + 1) s
-push_more v u t s i b e h is lt = e ∙ ap (λ x. x ++ b ∷ []) h ∙ append_assoc t (take i s) (b ∷ []) ∙ ap (λ x. t ++ (take i s ++ x ∷ [])) is ∙ ap (λ x. t ++ x) (sym (take_more s i 0 lt))
+-- what was cut off before a text does not count after it
+take_front : (n : ℕ) (u a : List ℕ) → take n (take n u ++ a) ≡ take n (u ++ a)
+take_front zero u a = refl
+take_front (suc n) [] a = refl
+take_front (suc n) (x ∷ u) a = ap (λ l. x ∷ l) (take_front n u a)
 
--- u with a is v, and v with b is w: so w is u with both
-pub then : (w v u a b : List ℕ) → v ≡ u ++ a → w ≡ v ++ b → w ≡ u ++ (a ++ b)
-then w v u a b e h = h ∙ ap (λ x. x ++ b) e ∙ append_assoc u a b
+-- two texts one after the other are one
+pub cut_more : (u a b : List ℕ) → cut (cut (u ++ a) ++ b) ≡ cut (u ++ (a ++ b))
+unfolding cut
+cut_more u a b = take_front LINE_BYTES (u ++ a) b ∙ ap cut (append_assoc u a b)
 
--- the digits before the last one, then the last one
-pub last_digit : (w v u : List ℕ) (n : ℕ) → 10 ≤ n → n < 2 ^ 64 → v ≡ u ++ decimal (n / 10) → w ≡ v ++ (48 + n % 10) ∷ [] → w ≡ u ++ decimal n
-last_digit w v u n big fits e h = then w v u (decimal (n / 10)) ((48 + n % 10) ∷ []) e h ∙ ap (λ x. u ++ x) (sym (decimal_step n big fits))
+-- as much of a text as there is room for is what fits of it
+pub fitted : (u s : List ℕ) (n : ℕ) → length u ≤ LINE_BYTES → n ≡ min (length s) (LINE_BYTES - length u) → u ++ take n s ≡ cut (u ++ s)
+unfolding cut
+fitted u s n within is =
+    let room = LINE_BYTES - length u in
+    let full : length u + room ≡ LINE_BYTES = omega arith in
+    ap (λ m. u ++ take m s) (is ∙ min_comm (length s) room) ∙ ap (λ l. u ++ l) (take_min room s) ∙ sym (take-append-add u s room) ∙ ap (λ m. take m (u ++ s)) full
 
--- a number below ten is its digit
-pub only_digit : (w u : List ℕ) (n : ℕ) → n < 10 → w ≡ u ++ (48 + n) ∷ [] → w ≡ u ++ decimal n
-only_digit w u n small h = h ∙ ap (λ x. u ++ x) (sym (decimal_digit n small))
-
--- a number below ten has one digit
-pub length_digit : (n : ℕ) → n < 10 → length (decimal n) ≡ 1
-length_digit n small = ap length (decimal_digit n small)
-
--- any other has one digit more than its tenth
-pub length_more : (n : ℕ) → 10 ≤ n → n < 2 ^ 64 → length (decimal n) ≡ length (decimal (n / 10)) + 1
-length_more n big fits = ap length (decimal_step n big fits) ∙ length-append (decimal (n / 10)) ((48 + n % 10) ∷ [])
+-- a line without a text more is as it was
+pub kept : (u : List ℕ) → length u ≤ LINE_BYTES → cut (u ++ []) ≡ u
+unfolding cut
+kept u within = ap (take LINE_BYTES) (append-nil u) ∙ take_all LINE_BYTES u within

@@ -1,9 +1,8 @@
 -- A line tells its act's number and outcome.
-use Rattle.std.specs.Prelude.{◌≡◌, ℕ, ◌^◌, ◌<◌, cond, List, ◌++◌, ◌==◌}
+use Rattle.std.specs.Prelude.{◌≡◌, ℕ, ◌^◌, ◌<◌, cond, List, ◌++◌, Ok, Err, ◌==◌}
 use Rattle.fabric.specs.declared.types.Answer.{Answer}
 use Rattle.fabric.specs.declared.types.Answer.TheVariants.{Accepted, Granted, More, Done, Beat}
-use Rattle.report.specs.declared.told.Told.{Told}
-use Rattle.report.specs.declared.told.Told.TheVariants.{Answer as Answered, Fault}
+use Rattle.report.specs.Outcomes.{Told}
 use Rattle.report.specs.Lines.{line}
 
 -- an answer's numbers are as large as its fields can hold
@@ -16,8 +15,8 @@ AnswerFits (Beat master id word r left) = (master < 2 ^ 8) × (id < 2 ^ 8) × (w
 
 -- an outcome's numbers are as large as its fields can hold
 abbrev pub ToldFits : Told → Type 0
-ToldFits (Answered a) = AnswerFits a
-ToldFits (Fault layer number) = number < 2 ^ 8
+ToldFits (Ok a) = AnswerFits a
+ToldFits (Err r) = r.number < 2 ^ 8
 
 -- an answer as far as a line tells it: of a read beat only whether some beat is left
 abbrev pub answer_shown : Answer → Answer
@@ -29,8 +28,8 @@ answer_shown (Beat master id word r left) = Beat master id word r (cond (left ==
 
 -- an outcome as far as a line tells it
 abbrev pub shown : Told → Told
-shown (Answered a) = Answered (answer_shown a)
-shown (Fault layer number) = Fault layer number
+shown (Ok a) = Ok (answer_shown a)
+shown (Err r) = Err r
 
 -- what two lines that read the same say of their acts, whatever bytes follow them
 pub record SameLine (n m : ℕ) (t u : Told) (x y : List ℕ) : Type 0 where

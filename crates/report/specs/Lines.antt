@@ -1,5 +1,5 @@
 -- The bytes of a report line.
-use Rattle.std.specs.Prelude.{ℕ, zero, suc, ◌/◌, ◌%◌, true, cond, List, [], ◌∷◌, ◌++◌, length, drop, codes, decimal, ◌==◌, nat_le}
+use Rattle.std.specs.Prelude.{ℕ, zero, suc, ◌/◌, ◌%◌, true, cond, List, [], ◌∷◌, ◌++◌, length, drop, codes, decimal, Ok, Err, ◌==◌, nat_le}
 use Rattle.std.specs.Fmt.{digit_glyph}
 use Rattle.slave.specs.declared.answer.Response.{Response}
 use Rattle.slave.specs.declared.answer.Response.TheVariants.{Okay, SlvErr, DecErr}
@@ -7,8 +7,7 @@ use Rattle.fabric.specs.declared.types.Answer.{Answer}
 use Rattle.fabric.specs.declared.types.Answer.TheVariants.{Accepted, Granted, More, Done, Beat}
 use Rattle.report.specs.declared.told.Layer.{Layer}
 use Rattle.report.specs.declared.told.Layer.TheVariants.{Slave, Fabric, Bench}
-use Rattle.report.specs.declared.told.Told.{Told}
-use Rattle.report.specs.declared.told.Told.TheVariants.{Answer as Answered, Fault}
+use Rattle.report.specs.Outcomes.{Told}
 
 -- a byte in two capital hexadecimal digits
 abbrev pub hex2 : ℕ → List ℕ
@@ -49,8 +48,8 @@ answer_words (Beat master id word r left) = codes "R " ++ (source master id ++ (
 
 -- the words of an outcome
 abbrev pub words : Told → List ℕ
-words (Answered a) = answer_words a
-words (Fault layer number) = codes "ERR " ++ (layer_letter layer ∷ (32 ∷ decimal number))
+words (Ok a) = answer_words a
+words (Err r) = codes "ERR " ++ (layer_letter r.layer ∷ (32 ∷ decimal r.number))
 
 -- a whole line: the act's number, a blank, the outcome's words, the end of the line
 abbrev pub line : ℕ → Told → List ℕ

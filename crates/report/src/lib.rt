@@ -4,5 +4,5 @@
 mod line;
 mod told;
 
-pub use line::lines::{line_length, write_line};
-pub use told::{Layer, ReportFault, Told};
+pub use line::{LINE_BYTES, line_length, write_line};
+pub use told::{Layer, Refusal, ReportFault, Told};

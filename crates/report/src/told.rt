@@ -1,29 +1,42 @@
 // What a line tells of an act, and the one fault of writing it.
-ghost use Rattle.report.specs.Outcomes.{fault_layer, outcome_told, report_number};
+ghost use Rattle.report.specs.Lines.{layer_letter};
+ghost use Rattle.report.specs.Outcomes.{refusal_of, report_number};
 ghost use Rattle.std.specs.Prelude.{◌≡◌};
 
-use fabric::{Answer, FabricFault, Outcome};
+use fabric::{Answer, FabricFault};
 
-// Who refuses an act.
+// Who refuses an act, by the letter that stands for it.
 #[derive(Clone, Copy, PartialEq, Eq, Debug)]
 pub enum Layer {
-    Slave,
-    Fabric,
-    Bench,
+    Slave = b'S' as isize,
+    Fabric = b'F' as isize,
+    Bench = b'B' as isize,
 }
 
-// How an act ended: with an answer, or refused by a layer with a number.
-#[derive(Clone, Copy, PartialEq, Eq, Debug)]
-pub enum Told {
-    Answer(Answer),
-    Fault { layer: Layer, number: u8 },
+impl Layer {
+    // The letter of the layer.
+    pub(crate) fn letter(self) -> u8
+        ensures { result ≡ layer_letter self }
+    {
+        self as u8
+    }
 }
+
+// A layer refuses an act, with the number of the refusal.
+#[derive(Clone, Copy, PartialEq, Eq, Debug)]
+pub struct Refusal {
+    pub layer: Layer,
+    pub number: u8,
+}
+
+// How an act ended: with an answer, or refused.
+pub type Told = Result<Answer, Refusal>;
 
 // Why a line is not written.
 #[derive(Clone, Copy, PartialEq, Eq, Debug)]
 pub enum ReportFault {
     // the buffer is shorter than the line
-    Short,
+    Short = 22,
 }
 
 impl ReportFault {
@@ -31,32 +44,22 @@ impl ReportFault {
     pub fn number(self) -> u8
         ensures { result ≡ report_number self }
     {
-        match self {
-            ReportFault::Short => 22,
-        }
+        self as u8
     }
 }
 
-// The layer of a fabric's refusal: the slave's own fault is the slave's.
-fn layer_of(fault: FabricFault) -> Layer
-    ensures { result ≡ fault_layer fault }
-{
-    match fault {
-        FabricFault::Slave(_) => Layer::Slave,
-        _ => Layer::Fabric,
-    }
-}
+// The slave's own fault is the slave's, any other the fabric's.
+impl From<FabricFault> for Refusal {
+    ghost from_gives = { λ e r. r ≡ refusal_of e };
 
-impl From<Outcome> for Told {
-    ghost from_gives = { λ e r. r ≡ outcome_told e };
-
-    fn from(outcome: Outcome) -> Told {
-        match outcome {
-            Ok(answer) => Told::Answer(answer),
-            Err(fault) => Told::Fault {
-                layer: layer_of(fault),
-                number: fault.number(),
-            },
+    fn from(fault: FabricFault) -> Refusal {
+        let layer = match fault {
+            FabricFault::Slave(_) => Layer::Slave,
+            _ => Layer::Fabric,
+        };
+        Refusal {
+            layer,
+            number: fault.number(),
         }
     }
 }

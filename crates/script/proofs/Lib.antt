@@ -1,4 +1,2 @@
--- Bytes and numbers, a file's parts, records and acts.
-pub mod Numbers
-pub mod Parting
+-- Records and acts.
 pub mod Keeping

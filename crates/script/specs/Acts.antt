@@ -4,10 +4,27 @@ use Rattle.slave.specs.declared.answer.Channel.{Channel}
 use Rattle.slave.specs.declared.answer.Channel.TheVariants.{Write, Read}
 use Rattle.fabric.specs.declared.types.Act.{Act}
 use Rattle.fabric.specs.declared.types.Act.TheVariants.{Request, Grant, Put, Take}
+use Rattle.fabric.specs.declared.types.Request.{Request as Asked}
 use Rattle.script.specs.declared.fault.ScriptFault.{ScriptFault}
 use Rattle.script.specs.declared.fault.ScriptFault.TheVariants.{Record as BadRecord, Short}
+use Rattle.script.specs.declared.code.Code.{Code}
+use Rattle.script.specs.declared.code.Code.TheVariants.{RequestWrite, RequestRead, GrantWrite, GrantRead, Put as PutCode, Take as TakeCode}
 use Rattle.script.specs.declared.record.Record.{Record}
+use Rattle.script.specs.Codes.{code_number, code_of}
 use Rattle.script.specs.Records.{read_record, record_bytes}
+
+-- the request of a record
+abbrev pub request_of : Record → Asked
+request_of r = record { master = r.master; id = r.id; qos = r.qos; burst = record { kind = r.kind; start = r.address; size = r.size; count = r.further + 1 } }
+
+-- the act of a code and the fields that it uses
+abbrev pub act_given : Code → Record → Act
+act_given RequestWrite r = Request Write (request_of r)
+act_given RequestRead r = Request Read (request_of r)
+act_given GrantWrite r = Grant Write
+act_given GrantRead r = Grant Read
+act_given PutCode r = Put r.master r.word r.strobe (r.last == 1)
+act_given TakeCode r = Take
 
 -- nothing of a request's burst stands, but for the master
 abbrev pub no_burst : Record → Bool
@@ -19,10 +36,7 @@ no_beat r = r.last == 0 && (r.strobe == 0 && r.word == 0)
 
 -- a record that codes 0 and 1 take: a request
 abbrev pub request_answer : Channel → Record → Result Act ScriptFault
-request_answer channel r =
-    cond (no_beat r && r.zeros == 0)
-    (Ok (Request channel (record { master = r.master; id = r.id; qos = r.qos; burst = record { kind = r.kind; start = r.address; size = r.size; count = r.further + 1 } })))
-    (Err BadRecord)
+request_answer channel r = cond (no_beat r && r.zeros == 0) (Ok (Request channel (request_of r))) (Err BadRecord)
 
 -- a record that code 4 takes: a put, with a last mark of 0 or 1
 abbrev pub put_answer : Record → Result Act ScriptFault
@@ -60,48 +74,28 @@ writable (Put master word strobe last) = true
 writable Take = true
 
 -- a record with a code and nothing else
-abbrev pub only : ℕ → Record
-only code = record { code = code; master = 0; id = 0; qos = 0; kind = 0; size = 0; further = 0; last = 0; address = 0; strobe = 0; zeros = 0; word = 0 }
-
--- the code of a request, and of a grant is two more
-abbrev pub request_code : Channel → ℕ
-request_code Write = 0
-request_code Read = 1
+abbrev pub only : Code → Record
+only code = record { code = code_number code; master = 0; id = 0; qos = 0; kind = 0; size = 0; further = 0; last = 0; address = 0; strobe = 0; zeros = 0; word = 0 }
 
 -- the record of an act
 abbrev pub act_record : Act → Record
 act_record (Request channel q) =
-    record {
-      code = request_code channel;
+    record (only (code_of (Request channel q))) {
       master = q.master;
       id = q.id;
       qos = q.qos;
       kind = q.burst.kind;
       size = q.burst.size;
       further = q.burst.count - 1;
-      last = 0;
       address = q.burst.start;
-      strobe = 0;
-      zeros = 0;
-      word = 0;
     }
-act_record (Grant channel) = only (2 + request_code channel)
-act_record (Put master word strobe last) =
-    record {
-      code = 4;
-      master = master;
-      id = 0;
-      qos = 0;
-      kind = 0;
-      size = 0;
-      further = 0;
-      last = cond last 1 0;
-      address = 0;
-      strobe = strobe;
-      zeros = 0;
-      word = word;
-    }
-act_record Take = only 5
+act_record (Grant channel) = only (code_of (Grant channel))
+act_record (Put master word strobe last) = record (only PutCode) { master = master; last = cond last 1 0; strobe = strobe; word = word }
+act_record Take = only TakeCode
+
+-- the record of an act, if one can hold it
+abbrev pub record_answer : Act → Result Record ScriptFault
+record_answer act = cond (writable act) (Ok (act_record act)) (Err BadRecord)
 
 -- the 24 bytes of an act
 abbrev pub act_bytes : Act → List ℕ

@@ -1,15 +1,15 @@
 -- The parts of a script file: a header of 8 bytes, records of 24 bytes, and the image.
 use Rattle.std.specs.Prelude.{◌≡◌, ℕ, ◌+◌, ◌*◌, ◌/◌, ◌<◌, ◌≤◌, Bool, true, false, cond, ◌&&◌, List, length, take, drop, Some, None, Option, Result, MatchResult, ◌==◌, nat_le, nat_lt}
 use Rattle.std.specs.Borrow.{Bor}
+use Rattle.std.specs.Int.{w32, from_le_bytes}
 use Rattle.script.specs.declared.fault.ScriptFault.{ScriptFault}
 use Rattle.script.specs.declared.fault.ScriptFault.TheVariants.{Header as BadHeader}
 use Rattle.script.specs.declared.script.Script.{Script}
 use Rattle.script.specs.declared.script.calls.Header.{Header}
-use Rattle.script.specs.Bytes.{number_at}
 
--- the header: the count of acts, and the length of the image
+-- the header: the count of acts and the length of the image, four bytes each, low byte first
 abbrev pub header_of : List ℕ → Header
-header_of file = record { acts = number_at 0 4 file; image = number_at 4 4 file }
+header_of file = record { acts = from_le_bytes w32 (take 4 file); image = from_le_bytes w32 (take 4 (drop 4 file)) }
 
 -- a header may stand before so many bytes: at most 2,048 acts, an image of at most 8,192 bytes, and just these bytes
 abbrev pub fits : Header → ℕ → Bool

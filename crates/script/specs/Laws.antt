@@ -1,8 +1,7 @@
 -- A script's parts make up its file; acts and records tell each other.
-use Rattle.std.specs.Prelude.{◌≡◌, ℕ, ◌*◌, ◌^◌, ◌<◌, ◌≤◌, true, List, ◌++◌, length, take, Ok}
+use Rattle.std.specs.Prelude.{◌≡◌, ℕ, ◌*◌, ◌^◌, ◌<◌, ◌≤◌, true, List, ◌++◌, length, take, slice_index, Ok}
 use Rattle.fabric.specs.declared.types.Act.{Act}
 use Rattle.fabric.specs.declared.types.Act.TheVariants.{Request, Grant, Put, Take}
-use Rattle.script.specs.Bytes.{Bytes}
 use Rattle.script.specs.Files.{header_of, image_of, opens, records_of}
 use Rattle.script.specs.Acts.{act_bytes, read_act, writable}
 
@@ -29,6 +28,10 @@ ActFits (Request channel q) = q.burst.start < 2 ^ 32
 ActFits (Grant channel) = Unit {0}
 ActFits (Put master word strobe last) = word < 2 ^ 64
 ActFits Take = Unit {0}
+
+-- every element is a byte
+abbrev pub Bytes : List ℕ → Type 0
+Bytes bytes = (k : ℕ) → k < length bytes → slice_index bytes k < 256
 
 -- reading and writing undo each other
 pub record ActsKept : Type 0 where

@@ -1,9 +1,9 @@
 -- The fields of a record of 24 bytes.
-use Rattle.std.specs.Prelude.{ℕ, cond, List, ◌∷◌, ◌++◌, length, Some, None, Option, ◌==◌, slice_index}
+use Rattle.std.specs.Prelude.{ℕ, cond, List, ◌∷◌, ◌++◌, length, take, drop, Some, None, Option, ◌==◌, slice_index}
+use Rattle.std.specs.Int.{w32, w64, from_le_bytes, to_le_bytes}
 use Rattle.script.specs.declared.record.Record.{Record}
-use Rattle.script.specs.Bytes.{low_bytes, number_at}
 
--- the fields in 24 bytes
+-- the fields in 24 bytes, numbers with their low byte first
 abbrev pub record_of : List ℕ → Record
 record_of bytes =
     record {
@@ -15,10 +15,10 @@ record_of bytes =
       size = slice_index bytes 5;
       further = slice_index bytes 6;
       last = slice_index bytes 7;
-      address = number_at 8 4 bytes;
+      address = from_le_bytes w32 (take 4 (drop 8 bytes));
       strobe = slice_index bytes 12;
-      zeros = number_at 13 3 bytes;
-      word = number_at 16 8 bytes;
+      zeros = from_le_bytes w32 (take 3 (drop 13 bytes));
+      word = from_le_bytes w64 (take 8 (drop 16 bytes));
     }
 
 -- bytes of another length are no record
@@ -27,4 +27,4 @@ read_record bytes = cond (length bytes == 24) (Some (record_of bytes)) None
 
 -- the bytes of the fields
 abbrev pub record_bytes : Record → List ℕ
-record_bytes r = r.code ∷ r.master ∷ r.id ∷ r.qos ∷ r.kind ∷ r.size ∷ r.further ∷ r.last ∷ (low_bytes 4 r.address ++ (r.strobe ∷ (low_bytes 3 r.zeros ++ low_bytes 8 r.word)))
+record_bytes r = r.code ∷ r.master ∷ r.id ∷ r.qos ∷ r.kind ∷ r.size ∷ r.further ∷ r.last ∷ (to_le_bytes w32 r.address ++ (r.strobe ∷ (take 3 (to_le_bytes w32 r.zeros) ++ to_le_bytes w64 r.word)))

@@ -2,14 +2,15 @@
 ghost use Rattle.script.specs.Faults.{script_number};
 ghost use Rattle.std.specs.Prelude.{◌≡◌};
 
+// Each refusal with its number.
 #[derive(Clone, Copy, PartialEq, Eq, Debug)]
 pub enum ScriptFault {
     // the file's header is bad
-    Header,
+    Header = 20,
     // an act's record is bad, or an act has none
-    Record,
+    Record = 21,
     // the buffer is shorter than a record
-    Short,
+    Short = 22,
 }
 
 impl ScriptFault {
@@ -17,10 +18,6 @@ impl ScriptFault {
     pub fn number(self) -> u8
         ensures { result ≡ script_number self }
     {
-        match self {
-            ScriptFault::Header => 20,
-            ScriptFault::Record => 21,
-            ScriptFault::Short => 22,
-        }
+        self as u8
     }
 }

@@ -2,7 +2,7 @@
 #![tactic(auto)]
 
 mod acts;
-mod bytes;
+mod code;
 mod fault;
 mod record;
 mod script;
@@ -10,4 +10,4 @@ mod script;
 pub use acts::{read_act, write_act};
 pub use fault::ScriptFault;
 pub use script::Script;
-pub use script::calls::open;
+pub use script::calls::{MOST_ACTS, MOST_BYTES, open};

@@ -1,6 +1,6 @@
 -- Calls of a slave by what it shows: which answer they get, and what they leave as it is.
-use Rattle.std.proofs.Common.{◌≡◌, ℕ, ◌<◌, ◌≤◌, Bool, true, false, cond, not, ◌&&◌, ◌||◌, eqb, ltb, Ok, Err, Result, sym, refl, ap, ◌∙◌, subst, arith}
-use Rattle.std.proofs.lemmas.Bool.{cond-true, cond-false, true≢false, and_parts, and_from, eqb-true, eq-eqb, le-ltb, ltb-true}
+use Rattle.std.proofs.Common.{◌≡◌, ℕ, ◌≤◌, Bool, true, false, cond, not, ◌&&◌, ◌||◌, eqb, ltb, Ok, Err, Result, sym, refl, ap, ◌∙◌, subst, arith}
+use Rattle.std.proofs.lemmas.Bool.{cond-true, cond-false, true≢false, and_parts, and_from, eqb-true, eq-eqb, le-ltb}
 use Rattle.burst.specs.declared.raw.RawBurst.{RawBurst}
 use Rattle.burst.specs.Rules.{fault_at}
 use Rattle.burst.specs.Beats.{address_of, last_of, first_refusal}
@@ -40,10 +40,6 @@ is_at_self b k = and_from (same_burst b b) (eqb k k) (burst_same b) (eq-eqb k k 
 pub idle_is : (q : Stand) → is_idle q ≡ true → q ≡ idle
 idle_is idle h = refl
 idle_is (busy b k) h = absurd (true≢false (sym h))
-
--- an open burst has a beat left and is lawful for the width
-pub open_left : (w : ℕ) (p : Stand) (b : RawBurst) (k : ℕ) → sound_stand w p ≡ true → p ≡ busy b k → k < b.count
-open_left w p b k h e = ltb-true k b.count (and_parts (ltb k b.count) (eqb (first_refusal w b) 0) (subst (λ q. sound_stand w q ≡ true) e h)).0
 
 pub open_lawful : (w : ℕ) (p : Stand) (b : RawBurst) (k : ℕ) → sound_stand w p ≡ true → p ≡ busy b k → first_refusal w b ≡ 0
 open_lawful w p b k h e = eqb-true (first_refusal w b) 0 (and_parts (ltb k b.count) (eqb (first_refusal w b) 0) (subst (λ q. sound_stand w q ≡ true) e h)).1

@@ -10,6 +10,7 @@ use Rattle.slave.specs.declared.answer.Response.TheVariants.{Okay}
 use Rattle.slave.specs.declared.answer.SlaveFault.{SlaveFault}
 use Rattle.slave.specs.declared.answer.SlaveFault.TheVariants.{Strobe, Dead, NotOpen}
 use Rattle.slave.specs.Meaning.{Meaning, ByteKind, plain, read_only, absent, unmapped, Stand, idle, busy, dead, Sound, sound_stand, is_there, is_idle, with_read}
+use Rattle.slave.specs.Channels.{worst_at}
 use Rattle.slave.specs.Lanes.{stray, lane_byte, is_plain}
 use Rattle.slave.specs.Acts.{on_ok, then_ok, beat_at, past, give_beat, give_after, gave_after, worst_after}
 use Rattle.slave.proofs.Calls.{give_stray, give_taken}
@@ -106,3 +107,12 @@ read_sound p m h l s = record {
 -- the place that a beat leaves is sound
 pub step_sound : (w : ℕ) (p q : Stand) (b : RawBurst) (k : ℕ) → sound_stand w p ≡ true → p ≡ busy b k → q ≡ past b k → sound_stand w q ≡ true
 step_sound w p q b k h e f = subst (λ x. sound_stand w x ≡ true) (sym f) (past_sound w b k (subst (λ x. sound_stand w x ≡ true) e h))
+
+-- an idle channel has no response
+pub quiet_at : (p : Stand) (r : Response) → is_idle p ≡ true → worst_at p r ≡ Okay
+quiet_at idle r h = refl
+quiet_at (busy b k) r h = absurd (true≢false (sym h))
+
+-- the worst response that a beat leaves
+pub worst_past : (b : RawBurst) (k : ℕ) (v : Response) → worst_at (past b k) (cond (ltb (k + 1) b.count) v Okay) ≡ cond (ltb (k + 1) b.count) v Okay
+worst_past b k v = elim (ltb (k + 1) b.count) as (λ t. worst_at (cond t (busy b (k + 1)) idle) (cond t v Okay) ≡ cond t v Okay) [ true ↦ refl | false ↦ refl ]

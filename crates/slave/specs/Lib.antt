@@ -3,3 +3,4 @@ pub mod Meaning
 pub mod Lanes
 pub mod Acts
 pub mod Making
+pub mod Channels

@@ -1,5 +1,5 @@
 -- What the makings of slaves share.
-use Rattle.std.specs.Prelude.{ℕ, Bool, ◌&&◌, ◌||◌, ◌==◌}
+use Rattle.std.specs.Prelude.{ℕ, Bool, Ok, Err, Result, ◌&&◌, ◌||◌, ◌==◌}
 use Rattle.slave.specs.declared.making.MakeFault.{MakeFault}
 use Rattle.slave.specs.declared.making.MakeFault.TheVariants.{Measure, Length, Below}
 use Rattle.slave.specs.Meaning.{Meaning, is_idle}
@@ -9,6 +9,11 @@ abbrev pub make_number : MakeFault → ℕ
 make_number Measure = 16
 make_number Length = 17
 make_number Below = 18
+
+-- the number that an answer of a check stands for, 0 where the making is accepted
+abbrev pub answered : {A : Type 0} → Result A MakeFault → ℕ
+answered (Ok x) = 0
+answered (Err e) = make_number e
 
 -- the widths of a bus in bytes
 abbrev pub is_width : ℕ → Bool

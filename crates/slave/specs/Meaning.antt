@@ -1,13 +1,12 @@
 -- What a slave shows, and what holds of every slave at all times.
-use Rattle.std.specs.Prelude.{◌≡◌, ℕ, ◌^◌, ◌<◌, ◌≤◌, Bool, true, false, ◌&&◌, ◌==◌, nat_lt}
+use Rattle.std.specs.Prelude.{◌≡◌, ℕ, ◌^◌, ◌<◌, ◌≤◌, Bool, true, false, Option, Some, None, ◌&&◌, ◌==◌, nat_lt}
 use Rattle.burst.specs.declared.raw.RawBurst.{RawBurst}
 use Rattle.burst.specs.Beats.{raw_of, first_refusal}
 use Rattle.slave.specs.declared.answer.Response.{Response}
 use Rattle.slave.specs.declared.answer.Response.TheVariants.{Okay}
 use Rattle.slave.specs.declared.answer.Channel.{Channel}
 use Rattle.slave.specs.declared.answer.Channel.TheVariants.{Write, Read}
-use Rattle.slave.specs.declared.answer.Place.{Place}
-use Rattle.slave.specs.declared.answer.Place.TheVariants.{Idle, Open}
+use Rattle.slave.specs.declared.answer.OpenBurst.{OpenBurst}
 
 -- what a byte is: a plain one takes writes, a read-only one keeps its value, an absent or unmapped one is not there
 pub data ByteKind : Type 0 where
@@ -51,9 +50,9 @@ stand_at m Write = m.write
 stand_at m Read = m.read
 
 -- a place as a slave tells it
-abbrev pub told : Place → Stand
-told Idle = idle
-told (Open b k) = busy (raw_of b) k
+abbrev pub told : Option OpenBurst → Stand
+told None = idle
+told (Some o) = busy (raw_of o.burst) o.taken
 
 -- the channel has no open burst
 abbrev pub is_idle : Stand → Bool

@@ -5,10 +5,7 @@ ghost use Rattle.slave.specs.Acts.{admission, bare};
 ghost use Rattle.std.specs.Prelude.{◌≡◌, IfOk, OnOk};
 
 use crate::answer::SlaveFault;
-use burst::{Burst, RawBurst, Width};
-
-// The kind that a simple slave takes.
-const INCR: u8 = 1;
+use burst::{Burst, BurstKind, RawBurst, Width};
 
 // The burst as a slave of this width, most and fullness takes it at an idle channel.
 pub fn admitted(raw: RawBurst, width: Width, most: u16, full: bool) -> Result<Burst, SlaveFault>
@@ -16,9 +13,9 @@ pub fn admitted(raw: RawBurst, width: Width, most: u16, full: bool) -> Result<Bu
     ensures same { IfOk result (λ b. raw_of b ≡ raw) }
     ensures lawful { OnOk result (first_refusal (width_bytes width) raw ≡ 0) }
 {
-    let b = burst::check(raw, width)?;
-    if !full && (raw.kind != INCR || raw.count > most) {
+    let burst = burst::check(raw, width)?;
+    if !full && (burst.kind != BurstKind::Incr || raw.count > most) {
         return Err(SlaveFault::Simple);
     }
-    Ok(b)
+    Ok(burst)
 }

@@ -1,12 +1,14 @@
 // What a slave answers, and where its channels stand.
+ghost use Rattle.std.specs.Prelude.{◌<◌};
+
 use burst::{Burst, BurstFault};
 
-// How a beat went; a later one is worse.
-#[derive(Clone, Copy, PartialEq, Eq, Debug)]
+// How a beat went, by its number on the bus; a larger one is worse.
+#[derive(Clone, Copy, PartialEq, Eq, PartialOrd, Ord, Debug)]
 pub enum Response {
-    Okay,
-    SlvErr,
-    DecErr,
+    Okay = 0,
+    SlvErr = 2,
+    DecErr = 3,
 }
 
 // Why a slave refuses a call.
@@ -26,12 +28,16 @@ pub enum Channel {
     Read,
 }
 
-// Where a channel stands: idle, or the open burst with the number of beats taken.
+// An open burst with the number of beats taken. Another is left.
 #[derive(Clone, Copy)]
-pub enum Place {
-    Idle,
-    Open { burst: Burst, taken: u16 },
+pub struct OpenBurst {
+    pub burst: Burst,
+    pub taken: u16,
+    ghost left: { taken < burst.count },
 }
+
+// Where a channel stands: at the open burst, or idle.
+pub type Place = Option<OpenBurst>;
 
 // A channel's place with the worst response of the open burst so far.
 #[derive(Clone, Copy)]
@@ -40,14 +46,23 @@ pub struct ChannelState {
     pub worst: Response,
 }
 
-// What a call does to a channel: it opens a burst, or takes a beat that went so.
+// Both channels of a slave.
+#[derive(Clone, Copy)]
+pub struct Channels {
+    pub write: ChannelState,
+    pub read: ChannelState,
+}
+
+// What a call does to a channel: it opens a burst, or takes a beat that went so. That a channel's place is matched
+// together with the call is a rule of the project, so the call is a value and not a closure.
 #[derive(Clone, Copy)]
 pub enum Step {
     Open(Burst),
     Beat(Response),
 }
 
-// The beats left, or after the last one the worst response.
+// The beats left, or after the last one the worst response. No `Option` and no `Result`: each case is a full answer, and
+// neither is an absence or a failure.
 #[derive(Clone, Copy, PartialEq, Eq, Debug)]
 pub enum Given {
     More(u16),

@@ -1,11 +1,13 @@
 // Lanes of words and strobes.
-ghost use Rattle.burst.specs.Beats.{bit};
-ghost use Rattle.slave.specs.Lanes.{lane_byte, outside};
-ghost use Rattle.std.specs.Prelude.{◌≡◌, not, ◌&&◌};
+ghost use Rattle.slave.specs.Lanes.{lane_byte, outside, worst_lane};
+ghost use Rattle.slave.specs.declared.answer.Response.{Response};
+ghost use Rattle.std.specs.Prelude.{◌≡◌, ℕ, ◌<◌};
 
-const LANES: u8 = 8;
+use crate::answer::Response;
+use burst::LANES;
 
-// The byte in lane i of a word, 0 from lane 8 on.
+// The byte in lane i of a word, 0 from lane 8 on. A shift says it as the field does, lane i is bits 8i to 8i + 7;
+// `to_le_bytes` would want an index of another type.
 pub fn lane_byte(word: u64, i: u8) -> u8
     ensures { result ≡ lane_byte word i }
 {
@@ -15,27 +17,21 @@ pub fn lane_byte(word: u64, i: u8) -> u8
     ((word >> (8 * i)) % 256) as u8
 }
 
-// Whether a strobe has a lane that a mask lacks.
-fn strays_in(mask: u8, strobe: u8, i: u8) -> bool
-    ensures { result ≡ (bit strobe i && not (bit mask i)) }
-{
-    burst::strobed(strobe, i) && !burst::strobed(mask, i)
-}
-
 // Whether a strobe has any of the eight lanes outside a mask.
 pub fn strays(mask: u8, strobe: u8) -> bool
     ensures { result ≡ outside mask strobe }
 {
-    any_stray(mask, strobe)
+    burst::any_lane(|i| burst::strobed(strobe, i) && !burst::strobed(mask, i))
 }
 
-// The same, lane by lane.
-fn any_stray(mask: u8, strobe: u8) -> bool
-    ensures { result ≡ outside mask strobe }
+// The worst response of the eight lanes. A loop is the fold itself, and its invariant the definition's own step.
+pub fn worst_of<F: Fn(u8) -> Response>(response: F) -> Response
+    requires { F.IsAlwaysCallable response }
+    ensures { (p : ℕ → Response) → ((i : ℕ) (r : Response) → i < 8 → F.post response i r → r ≡ p i) → result ≡ worst_lane p 8 }
 {
-    let mut found = false;
+    let mut worst = Response::Okay;
     for i in 0..LANES {
-        found |= strays_in(mask, strobe, i);
+        worst = worst.worse(response(i));
     }
-    found
+    worst
 }

@@ -7,10 +7,13 @@ mod interface;
 mod lanes;
 mod making;
 mod numbers;
+mod open;
 mod place;
 
 pub use admit::admitted;
-pub use answer::{Channel, ChannelState, Given, Place, Response, SlaveFault, Step};
+pub use answer::{
+    Channel, ChannelState, Channels, Given, OpenBurst, Place, Response, SlaveFault, Step,
+};
 pub use interface::Slave;
-pub use lanes::{lane_byte, strays};
-pub use making::{MakeFault, is_ready, width_of};
+pub use lanes::{lane_byte, strays, worst_of};
+pub use making::{MakeFault, check_below, is_ready, width_of};

@@ -13,27 +13,19 @@ impl Response {
     pub fn code(self) -> u8
         ensures { result ≡ rank self }
     {
-        match self {
-            Response::Okay => 0,
-            Response::SlvErr => 2,
-            Response::DecErr => 3,
-        }
+        self as u8
     }
 
     // The worse of two responses.
     pub fn worse(self, other: Response) -> Response
         ensures { result ≡ worse_of self other }
     {
-        if self.code() < other.code() {
-            other
-        } else {
-            self
-        }
+        self.max(other)
     }
 }
 
 impl SlaveFault {
-    // The number of the refusal.
+    // The number of the refusal. No discriminants: an unlawful burst's fault has its own number.
     pub fn number(self) -> u8
         ensures { result ≡ number self }
     {

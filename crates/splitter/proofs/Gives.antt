@@ -1,36 +1,33 @@
 -- What a give answers and leaves.
-use Rattle.std.proofs.Common.{◌≡◌, ℕ, ◌+◌, Bool, true, false, cond, ltb, Ok, Err, sym, refl, ap, ◌∙◌, subst, ⊎_elim, arith}
+use Rattle.std.proofs.Common.{◌≡◌, ℕ, ◌+◌, Bool, true, false, cond, ltb, Option, Some, None, Ok, Err, sym, refl, ap, ◌∙◌, subst, ⊎_elim}
 use Rattle.std.proofs.lemmas.Bool.{cases_Bool, le-ltb, ltb-false}
 use Rattle.burst.specs.declared.raw.RawBurst.{RawBurst}
 use Rattle.burst.specs.Beats.{first_refusal, address_of, last_of, raw_of}
 use Rattle.slave.specs.declared.answer.Response.{Response}
 use Rattle.slave.specs.declared.answer.Response.TheVariants.{Okay}
 use Rattle.slave.specs.declared.answer.SlaveFault.{SlaveFault}
-use Rattle.slave.specs.declared.answer.SlaveFault.TheVariants.{Strobe, NotOpen}
+use Rattle.slave.specs.declared.answer.SlaveFault.TheVariants.{NotOpen}
 use Rattle.slave.specs.declared.answer.Given.{Given}
+use Rattle.slave.specs.declared.answer.Channels.{Channels}
+use Rattle.slave.specs.declared.answer.OpenBurst.{OpenBurst}
 use Rattle.slave.specs.declared.answer.Given.TheVariants.{More, Done}
 use Rattle.slave.specs.declared.answer.Channel.TheVariants.{Write}
 use Rattle.slave.specs.declared.answer.Step.TheVariants.{Beat}
-use Rattle.slave.specs.declared.answer.Place.{Place}
-use Rattle.slave.specs.declared.answer.Place.TheVariants.{Idle, Open}
 use Rattle.slave.specs.Meaning.{Meaning, Stand, idle, busy, Sound, with_write, told}
 use Rattle.slave.specs.Lanes.{worse, stray, written, write_worst}
-use Rattle.slave.specs.Acts.{on_ok, map_ok, then_ok, beat_at, past, left, give_beat, give_answer, give_after, gave_answer, gave_after, step_answer, step_place, step_worst}
+use Rattle.slave.specs.Acts.{past, left, give_answer, give_after, gave_answer, gave_after, step_answer, step_place, step_worst}
 use Rattle.slave.proofs.Calls.{idle_is, give_stray, give_taken}
 use Rattle.slave.proofs.Soundness.{gave_sound}
 use Rattle.slave.proofs.Worst.{worse_assoc, worse_left}
 use Rattle.splitter.specs.Runs.{run_of, beat_in}
-use Rattle.splitter.specs.Splits.{fits, worst_of, split_shows, split_of, follow_after, run_response}
+use Rattle.splitter.specs.Splits.{fits, worst_of, split_shows, split_of, splits, follow_after, run_response}
 use Rattle.splitter.specs.Walks.{run_address, run_last, next_none}
 use Rattle.splitter.specs.Places.{Below, below_at, Fitting, fitting, fits_from, lawful_here, placed, Quiet, Followed, goes_on}
 use Rattle.splitter.specs.ShowsLemmas.{split_is, live_fits}
 
 -- a give where no write is open
 give_none : (m : Meaning) (w s : ℕ) → m.live ≡ true → m.write ≡ idle → (give_answer m w s ≡ Err NotOpen) × (give_after m w s ≡ m)
-give_none m w s l e =
-    let g : give_beat m s ≡ Err NotOpen =
-    ap (λ p. then_ok p (λ x. cond (stray m.width (address_of x.0 x.1) (last_of x.0 x.1) s) (Err Strobe) (Ok x))) (ap (λ t. beat_at t m.write) l ∙ ap (beat_at true) e) in
-    (ap (λ z. map_ok z (λ x. gave_answer m x.0 x.1 s)) g, ap (λ z. on_ok z m (λ x. gave_after m x.0 x.1 w s)) g)
+give_none m w s l e = (cc, cc)
 
 -- the response of a beat below, by whether the run goes on
 response_of : (t : Bool) (k : ℕ) (v : Response) → run_response (cond t (More k) (Done v)) ≡ cond t Okay v
@@ -79,16 +76,15 @@ module _ (M : ℕ) (b : RawBurst) (j : ℕ) (kept : Response) (r : Stand) (m : M
   out = stray m.width (address_of b j) (last_of b j) s
 
   same_stray : stray m.width (address_of run i) (last_of run i) s ≡ out
-  same_stray = ap (λ a. stray m.width a (last_of run i) s) here ∙ ap (λ l. stray m.width (address_of b j) l s) last
+  same_stray = let h = here in let l = last in cc
 
   -- the strobe is refused below as it would be here
   give_strays : out ≡ true → (give_answer m w s ≡ give_answer (split_of M (busy b j) kept r m) w s) × (split_of M (busy b j) kept r (give_after m w s) ≡ give_after (split_of M (busy b j) kept r m) w s)
   give_strays t =
       let p = give_stray m run i w s f.live bel.at (same_stray ∙ t) in
-      let q = give_stray X b j w s refl refl t in (
-        p.0 ∙ sym q.0 ∙ ap (λ x. give_answer x w s) (sym shown),
-        ap (split_of M (busy b j) kept r) p.1 ∙ shown ∙ sym q.1 ∙ ap (λ x. give_after x w s) (sym shown),
-      )
+      let q = give_stray X b j w s refl refl t in
+      let is = shown in
+      (cc, cc)
 
   -- the run goes on
   abbrev on : Bool
@@ -109,13 +105,10 @@ module _ (M : ℕ) (b : RawBurst) (j : ℕ) (kept : Response) (r : Stand) (m : M
     taken = give_taken m run i w s f.live bel.at (same_stray ∙ t)
 
     below_answer : give_answer m w s ≡ Ok (cond on (More (left run i)) (Done (worse m.worst v)))
-    below_answer =
-        taken.0
-        ∙ ap (λ a. Ok (cond on (More (left run i)) (Done (worse m.worst (write_worst m a (last_of run i) s))))) here
-        ∙ ap (λ l. Ok (cond on (More (left run i)) (Done (worse m.worst (write_worst m (address_of b j) l s))))) last
+    below_answer = let t = taken.0 in let h = here in let l = last in cc
 
     below_after : give_after m w s ≡ n
-    below_after = taken.1 ∙ ap (λ a. gone a (last_of run i)) here ∙ ap (gone (address_of b j)) last
+    below_after = let t = taken.1 in let h = here in let l = last in cc
 
     quiet_after : Quiet n
     quiet_after = subst Quiet (sym taken.1 ∙ below_after) (gave_sound m run i w s sound f.live bel.at).quiet
@@ -130,66 +123,71 @@ module _ (M : ℕ) (b : RawBurst) (j : ℕ) (kept : Response) (r : Stand) (m : M
         → (step_answer (busy b j) kept (Beat (run_response given)) ≡ give_answer (split_of M (busy b j) kept r m) w s)
         × (split_of M (past b j) (step_worst (busy b j) kept (Beat (run_response given))) r (follow_after M Write (past b j) (give_after m w s)) ≡ give_after (split_of M (busy b j) kept r m) w s)
     give_takes given h =
-        let is : given ≡ cond on (More (left run i)) (Done (worse m.worst v)) = let e = h ∙ below_answer in cc in
-        let x : run_response given ≡ cond on Okay (worse m.worst v) = ap run_response is ∙ response_of on (left run i) (worse m.worst v) in
+        let below = below_answer in
+        let is : given ≡ cond on (More (left run i)) (Done (worse m.worst v)) = cc in
+        let response = response_of on (left run i) (worse m.worst v) in
         let more : Bool = ltb (j + 1) b.count in
         let over : more ≡ false → on ≡ false = λ e. le-ltb (i + 1) run.count (next_none M b j law8 f.some bel.left (ltb-false (j + 1) b.count e)) in
-        let worst : Response → Response = λ y. cond more (worse kept y) Okay in
-        let last : Meaning = placed Write goes.stand n in (
-          ap (λ y. Ok (cond more (More (left b j)) (Done (worse kept y)))) x
-              ∙ ap Ok (done_joined on more (left b j) kept m.worst v over)
-              ∙ sym own.0 ∙ ap (λ y. give_answer y w s) (sym shown),
-          ap (λ y. split_of M (past b j) (worst y) r (follow_after M Write (past b j) (give_after m w s))) x
-              ∙ ap (λ y. split_of M (past b j) (worst (cond on Okay (worse m.worst v))) r (follow_after M Write (past b j) y)) below_after
-              ∙ ap (split_of M (past b j) (worst (cond on Okay (worse m.worst v))) r) goes.after
-              ∙ split_is M (past b j) (worst (cond on Okay (worse m.worst v))) r last (fits_from M (past b j) r last f.live f.number goes.on f.read)
-              ∙ ap (λ y. with_write (past b j) y (written m (address_of b j) (last_of b j) w s) X) (worst_joined on more b (j + 1) kept m.worst v)
-              ∙ sym own.1 ∙ ap (λ y. give_after y w s) (sym shown),
-        )
+        let done = done_joined on more (left b j) kept m.worst v over in
+        let here = own in
+        let was = shown in
+        let worst = worst_joined on more b (j + 1) kept m.worst v in
+        let end : Meaning = placed Write goes.stand n in
+        let after = below_after in
+        let follows = goes.after in
+        let w' : Response = cond more (worse kept (cond on Okay (worse m.worst v))) Okay in
+        let now = split_is M (past b j) w' r end (fits_from M (past b j) r end f.live f.number goes.on f.read) in
+        (cc, cc)
 
 -- a give at any place
-module _ (M : ℕ) (p : Place) (kept : Response) (r : Stand) (m : Meaning) (w s : ℕ) (sound : Sound m) (live : (split_of M (told p) kept r m).live ≡ true) where
-  fit_gave : fits M (told p) r m ≡ true
-  fit_gave = live_fits M (told p) kept r m live
+module _ (M : ℕ) (c : Channels) (m : Meaning) (w s : ℕ) (sound : Sound m) (live : (splits M c m).live ≡ true) where
+  abbrev kept : Response
+  kept = c.write.worst
 
-  pub gave_refused : (e : SlaveFault) → Err e ≡ give_answer m w s
-      → (Err e ≡ give_answer (split_of M (told p) kept r m) w s) × (split_of M (told p) kept r (give_after m w s) ≡ give_after (split_of M (told p) kept r m) w s)
-  gave_refused e h = by p fit_gave
+  abbrev r : Stand
+  r = told c.read.place
+
+  fit_gave : fits M (told c.write.place) r m ≡ true
+  fit_gave = live_fits M (told c.write.place) kept r m live
+
+  pub gave_refused : (e : SlaveFault) → Err e ≡ give_answer m w s → (Err e ≡ give_answer (splits M c m) w s) × (splits M c (give_after m w s) ≡ give_after (splits M c m) w s)
+  gave_refused e h = by c.write.place fit_gave
     where
-      by : (p : Place) → fits M (told p) r m ≡ true
+      by : (p : Option OpenBurst) → fits M (told p) r m ≡ true
           → (Err e ≡ give_answer (split_of M (told p) kept r m) w s) × (split_of M (told p) kept r (give_after m w s) ≡ give_after (split_of M (told p) kept r m) w s)
-      by Idle g =
+      by None g =
           let f = fitting M idle r m g in
           let a = give_none m w s f.live (idle_is m.write f.write) in
           let is = split_is M idle kept r m g in
-          let o = give_none (split_shows idle kept r m) w s refl refl in (
-            h ∙ a.0 ∙ sym o.0 ∙ ap (λ x. give_answer x w s) (sym is),
-            ap (split_of M idle kept r) a.1 ∙ is ∙ sym o.1 ∙ ap (λ x. give_after x w s) (sym is),
-          )
-      by (Open b k) g =
+          let o = give_none (split_shows idle kept r m) w s refl refl in
+          (cc, cc)
+      by (Some o) g =
           ⊎_elim
-          (λ t. let q = give_strays M (raw_of b) k kept r m w s sound b.lawful g t in (h ∙ q.0, q.1))
-          (λ t. let e = h ∙ below_answer M (raw_of b) k kept r m w s sound b.lawful g t in absurd (let z : ◌≡◌ {A = ℕ} 0 1 = cc in omega arith))
-          (cases_Bool (stray m.width (address_of (raw_of b) k) (last_of (raw_of b) k) s))
+          (λ t. let q = give_strays M (raw_of o.burst) o.taken kept r m w s sound o.burst.lawful g t in (h ∙ q.0, q.1))
+          (λ t. let e = h ∙ below_answer M (raw_of o.burst) o.taken kept r m w s sound o.burst.lawful g t in cc)
+          (cases_Bool (stray m.width (address_of (raw_of o.burst) o.taken) (last_of (raw_of o.burst) o.taken) s))
 
-  pub gave : (given : Given) → Ok given ≡ give_answer m w s
+  gave_takes : (given : Given) → Ok given ≡ give_answer m w s → (p : Option OpenBurst) → fits M (told p) r m ≡ true
       → (step_answer (told p) kept (Beat (run_response given)) ≡ give_answer (split_of M (told p) kept r m) w s)
       × (split_of M (step_place (told p) (Beat (run_response given))) (step_worst (told p) kept (Beat (run_response given))) r (follow_after M Write (step_place (told p) (Beat (run_response given))) (give_after m w s))
       ≡ give_after (split_of M (told p) kept r m) w s)
-  gave given h = by p fit_gave
-    where
-      by : (p : Place) → fits M (told p) r m ≡ true
-          → (step_answer (told p) kept (Beat (run_response given)) ≡ give_answer (split_of M (told p) kept r m) w s)
-          × (split_of M (step_place (told p) (Beat (run_response given))) (step_worst (told p) kept (Beat (run_response given))) r (follow_after M Write (step_place (told p) (Beat (run_response given))) (give_after m w s))
-          ≡ give_after (split_of M (told p) kept r m) w s)
-      by Idle g =
-          let f = fitting M idle r m g in
-          let e = h ∙ (give_none m w s f.live (idle_is m.write f.write)).0 in
-          absurd (let z : ◌≡◌ {A = ℕ} 0 1 = cc in omega arith)
-      by (Open b k) g =
-          ⊎_elim
-          (λ t. let e = h ∙ (give_strays M (raw_of b) k kept r m w s sound b.lawful g t).0 ∙ ap (λ x. give_answer x w s) (split_is M (busy (raw_of b) k) kept r m g)
-          ∙ (give_stray (split_shows (busy (raw_of b) k) kept r m) (raw_of b) k w s refl refl t).0 in
-          absurd (let z : ◌≡◌ {A = ℕ} 0 1 = cc in omega arith))
-          (λ t. give_takes M (raw_of b) k kept r m w s sound b.lawful g t given h)
-          (cases_Bool (stray m.width (address_of (raw_of b) k) (last_of (raw_of b) k) s))
+  gave_takes given h None g =
+      let f = fitting M idle r m g in
+      let e = h ∙ (give_none m w s f.live (idle_is m.write f.write)).0 in
+      cc
+  gave_takes given h (Some o) g =
+      ⊎_elim
+      (λ t. let e = h ∙ (give_strays M (raw_of o.burst) o.taken kept r m w s sound o.burst.lawful g t).0 ∙ ap (λ x. give_answer x w s) (split_is M (busy (raw_of o.burst) o.taken) kept r m g)
+      ∙ (give_stray (split_shows (busy (raw_of o.burst) o.taken) kept r m) (raw_of o.burst) o.taken w s refl refl t).0 in
+      cc)
+      (λ t. give_takes M (raw_of o.burst) o.taken kept r m w s sound o.burst.lawful g t given h)
+      (cases_Bool (stray m.width (address_of (raw_of o.burst) o.taken) (last_of (raw_of o.burst) o.taken) s))
+
+  -- the record d after the step, and the slave below after it followed
+  pub gave : (given : Given) → Ok given ≡ give_answer m w s → (x : Response) → x ≡ run_response given → (d : Channels) → told d.write.place ≡ step_place (told c.write.place) (Beat x)
+      → d.write.worst ≡ step_worst (told c.write.place) kept (Beat x) → told d.read.place ≡ r
+      → (step_answer (told c.write.place) kept (Beat x) ≡ give_answer (splits M c m) w s)
+      × (splits M d (follow_after M Write (told d.write.place) (give_after m w s)) ≡ give_after (splits M c m) w s)
+  gave given h x is d place worst same =
+      let p = gave_takes given h c.write.place fit_gave in
+      (cc, cc)

@@ -1,5 +1,5 @@
 -- The runs of a burst, joined, are its beats in order; no run is refused; and one split worked out.
-use Rattle.std.specs.Prelude.{◌≡◌, ℕ, zero, suc, ◌+◌, ◌-◌, ◌*◌, ◌/◌, ◌^◌, ◌<◌, ◌≤◌, cond, [], ◌∷◌, ◌++◌, refl}
+use Rattle.std.specs.Prelude.{◌≡◌, ℕ, zero, suc, ◌+◌, ◌-◌, ◌*◌, ◌/◌, ◌^◌, ◌<◌, ◌≤◌, ◌∷◌, ◌++◌, refl}
 use native.Mathlib.Omega.{arith}
 use Rattle.std.proofs.Common.{add-zero, zero-add, sym, ◌∙◌, subst}
 use Rattle.std.proofs.Math.Path.{ap}
@@ -21,8 +21,10 @@ beats-++ : (b : RawBurst) (j c d : ℕ) → beats_from b j c ++ beats_from b (j 
 unfolding beats_from
 beats-++ b j zero d = ap (λ x. beats_from b x d) (add-zero j) ∙ ap (beats_from b j) (sym (zero-add d))
 beats-++ b j (suc c) d =
-    ap (λ l. (address_of b j, last_of b j) ∷ l) (ap (λ x. beats_from b (j + 1) c ++ beats_from b x d) (let e : j + suc c ≡ j + 1 + c = omega arith in e) ∙ beats-++ b (j + 1) c d)
-    ∙ ap (beats_from b j) (let e : suc (c + d) ≡ suc c + d = omega arith in e)
+    let next : j + suc c ≡ j + 1 + c = omega arith in
+    let count : suc (c + d) ≡ suc c + d = omega arith in
+    let rest = beats-++ b (j + 1) c d in
+    cc
 
 -- two bursts with the same size and addresses cover the same
 beats_same : (b r : RawBurst) (k j c : ℕ) → r.size ≡ b.size → ((i : ℕ) → i < c → address_of r (k + i) ≡ address_of b (j + i)) → beats_from r k c ≡ beats_from b j c
@@ -83,20 +85,21 @@ module _ (M : ℕ) (b : RawBurst) (lawful : first_refusal 8 b ≡ 0) (some : 0 <
       (λ lt. let c : ℕ = (run_of M b j).count in
       let has = run_has M b j lawful some lt in
       let inside : j + c ≤ b.count = omega (arith, run_inside M b j lawful some lt, run_base M b j lawful some lt, z lt) in
-      ap (λ t. joined (cond t (run_of M b j ∷ runs_from f M b (j + c)) [])) (lt-ltb j b.count lt)
-      ∙ ap (λ x. x ++ joined (runs_from f M b (j + c))) (run_beats j lt (z lt))
-      ∙ ap (λ x. beats_from b j c ++ x) (from_start f (j + c) (omega arith) inside (λ u. next_start j lt (z lt) u))
-      ∙ beats-++ b j c (b.count - (j + c))
-      ∙ ap (beats_from b j) (let x : c + (b.count - (j + c)) ≡ b.count - j = omega arith in x))
-      (λ ge. ap (λ t. joined (cond t (run_of M b j ∷ runs_from f M b (j + (run_of M b j).count)) [])) (le-ltb j b.count ge)
-      ∙ ap (beats_from b j) (let x : 0 ≡ b.count - j = omega arith in x))
+      let test = lt-ltb j b.count lt in
+      let run = run_beats j lt (z lt) in
+      let rest = from_start f (j + c) (omega arith) inside (λ u. next_start j lt (z lt) u) in
+      let both = beats-++ b j c (b.count - (j + c)) in
+      let count : c + (b.count - (j + c)) ≡ b.count - j = omega arith in
+      cc)
+      (λ ge. let test = le-ltb j b.count ge in let none : 0 ≡ b.count - j = omega arith in cc)
       (cases_lt j b.count)
 
   -- the runs of a burst, joined, are its beats in order
   pub runs_join : joined (runs M b) ≡ beats b
   runs_join =
-      from_start b.count 0 (omega arith) (omega arith) (λ h. omega (arith, run_base M b 0 lawful some h))
-      ∙ ap (beats_from b 0) (let x : b.count - 0 ≡ b.count = omega arith in x)
+      let all = from_start b.count 0 (omega arith) (omega arith) (λ h. omega (arith, run_base M b 0 lawful some h)) in
+      let count : b.count - 0 ≡ b.count = omega arith in
+      cc
 
 -- every run is an INCR burst that the slave below takes, with the beat that it is for
 incr_is : (M : ℕ) (b : RawBurst) (j : ℕ) → (run_of M b j).kind ≡ 1

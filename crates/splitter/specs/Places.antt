@@ -1,7 +1,8 @@
 -- Where a splitter and the slave below it stand, and how the slave below is made to follow.
-use Rattle.std.specs.Prelude.{◌≡◌, ℕ, ◌+◌, ◌<◌, ◌≤◌, Bool, true, false, cond, ◌&&◌, Some, None, nat_le, nat_lt, refl}
-use Rattle.std.proofs.Common.{sym, ◌∙◌, ap, subst, ⊎_elim}
-use Rattle.std.proofs.lemmas.Bool.{leb-true, cases_Bool, cases_lt, lt-ltb, le-ltb, ltb-true, and_parts, and_from, true≢false}
+use Rattle.std.specs.Prelude.{◌≡◌, ℕ, ◌+◌, ◌<◌, ◌≤◌, Bool, true, false, cond, ◌&&◌, Some, nat_lt, refl}
+use Rattle.std.proofs.Common.{arith, sym, ◌∙◌, ap, subst, ⊎_elim}
+use Rattle.std.proofs.lemmas.Bool.{cases_Bool, cases_lt, lt-ltb, le-ltb, and_parts}
+use Rattle.std.proofs.lemmas.Bool.Decides.{nat_tests}
 use Rattle.burst.specs.declared.raw.RawBurst.{RawBurst}
 use Rattle.burst.specs.Beats.{first_refusal}
 use Rattle.burst.proofs.Facts.{size_fits, narrower}
@@ -9,17 +10,16 @@ use Rattle.slave.specs.declared.answer.Response.TheVariants.{Okay}
 use Rattle.slave.specs.declared.answer.Channel.{Channel}
 use Rattle.slave.specs.declared.answer.Channel.TheVariants.{Write, Read}
 use Rattle.slave.specs.Meaning.{Meaning, Stand, idle, busy, with_read, with_write, stand_at, is_idle, sound_stand}
-use Rattle.slave.specs.Acts.{on_ok, opened, past}
+use Rattle.slave.specs.Acts.{opened, past}
 use Rattle.slave.proofs.Calls.{at_is, is_at_self, open_lawful}
 use Rattle.splitter.specs.Runs.{run_of, beat_in, run_answer}
-use Rattle.splitter.specs.Splits.{runs_at, on_place, numbered, fits, with_run, follow_after}
+use Rattle.splitter.specs.Splits.{on_place, numbered, fits, follow_after}
 use Rattle.splitter.specs.Walks.{next_left, next_run, next_beat, next_new}
 use Rattle.splitter.specs.Joined.{run_stands}
 
 -- the run of a beat that is left
 pub run_told : (M : ℕ) (b : RawBurst) (j : ℕ) → 0 < M → j < b.count → run_answer M b j ≡ Some (run_of M b j, beat_in M b j)
-run_told M b j some left =
-    ap (λ t. cond t (Some (run_of M b j, beat_in M b j)) None) (and_from (nat_lt 0 M) (nat_lt j b.count) (lt-ltb 0 M some) (lt-ltb j b.count left))
+run_told M b j some left = grind (arith, nat_tests)
 
 -- where a burst is open, the slave below stands at the run and the beat of its next beat
 pub record Below (M : ℕ) (b : RawBurst) (j : ℕ) (q : Stand) : Type 0 where
@@ -30,18 +30,15 @@ pub record Below (M : ℕ) (b : RawBurst) (j : ℕ) (q : Stand) : Type 0 where
 pub below_at : (M : ℕ) (b : RawBurst) (j : ℕ) (q : Stand) → on_place M (busy b j) q ≡ true → Below M b j q
 below_at M b j q h =
     ⊎_elim
-    (λ t. let p = and_parts (nat_lt 0 M) (nat_lt j b.count) t in
-    record {
-      some = ltb-true 0 M p.0;
-      left = ltb-true j b.count p.1;
-      at = at_is (run_of M b j) (beat_in M b j) q (sym (ap (λ u. runs_at (cond u (Some (run_of M b j, beat_in M b j)) None) q) t) ∙ h);
-    })
-    (λ f. absurd (true≢false (sym h ∙ ap (λ u. runs_at (cond u (Some (run_of M b j, beat_in M b j)) None) q) f)))
+    (λ t. record { some = grind (arith, nat_tests); left = grind (arith, nat_tests); at = at_is (run_of M b j) (beat_in M b j) q cc })
+    (λ f. cc)
     (cases_Bool (nat_lt 0 M && nat_lt j b.count))
 
 pub at_below : (M : ℕ) (b : RawBurst) (j : ℕ) (q : Stand) → 0 < M → j < b.count → q ≡ busy (run_of M b j) (beat_in M b j) → on_place M (busy b j) q ≡ true
 at_below M b j q some left e =
-    ap (λ o. runs_at o q) (run_told M b j some left) ∙ subst (λ x. runs_at (Some (run_of M b j, beat_in M b j)) x ≡ true) (sym e) (is_at_self (run_of M b j) (beat_in M b j))
+    let told = run_told M b j some left in
+    let self = is_at_self (run_of M b j) (beat_in M b j) in
+    cc
 
 -- what a fitting record says
 pub record Fitting (M : ℕ) (w r : Stand) (m : Meaning) : Type 0 where
@@ -56,13 +53,11 @@ pub fitting : (M : ℕ) (w r : Stand) (m : Meaning) → fits M w r m ≡ true �
 fitting M w r m h =
     let p = and_parts (m.live && numbered M m) (on_place M w m.write && on_place M r m.read) h in
     let q = and_parts m.live (numbered M m) p.0 in
-    let n = and_parts (nat_le 1 M) (nat_le M m.most) q.1 in
     let o = and_parts (on_place M w m.write) (on_place M r m.read) p.1 in
-    record { live = q.0; number = q.1; some = leb-true 1 M n.0; most = leb-true M m.most n.1; write = o.0; read = o.1 }
+    record { live = q.0; number = q.1; some = grind (arith, nat_tests); most = grind (arith, nat_tests); write = o.0; read = o.1 }
 
 pub fits_from : (M : ℕ) (w r : Stand) (m : Meaning) → m.live ≡ true → numbered M m ≡ true → on_place M w m.write ≡ true → on_place M r m.read ≡ true → fits M w r m ≡ true
-fits_from M w r m l n a b =
-    and_from (m.live && numbered M m) (on_place M w m.write && on_place M r m.read) (and_from m.live (numbered M m) l n) (and_from (on_place M w m.write) (on_place M r m.read) a b)
+fits_from M w r m l n a b = cc
 
 -- an open burst is lawful for the width, since a run of it stands open below
 pub lawful_here : (M : ℕ) (b : RawBurst) (j w : ℕ) (q : Stand) → first_refusal 8 b ≡ 0 → on_place M (busy b j) q ≡ true → sound_stand w q ≡ true → first_refusal w b ≡ 0
@@ -98,7 +93,7 @@ pub record Followed (M : ℕ) (ch : Channel) (p : Stand) (m : Meaning) : Type 0 
 -- nothing is done where it stands right
 stays : (M : ℕ) (ch : Channel) (p : Stand) (m : Meaning) → on_place M p (stand_at m ch) ≡ true → follow_after M ch p m ≡ m
 stays M ch idle m h = refl
-stays M ch (busy b j) m h = ap (λ q. cond (is_idle q) (with_run ch (run_answer M b j) m) m) (below_at M b j (stand_at m ch) h).at
+stays M ch (busy b j) m h = let at = (below_at M b j (stand_at m ch) h).at in cc
 
 stood : (M : ℕ) (ch : Channel) (p : Stand) (m : Meaning) → on_place M p (stand_at m ch) ≡ true → Followed M ch p m
 stood M ch p m h = record { stand = stand_at m ch; on = h; after = stays M ch p m h ∙ placed_self ch m }
@@ -112,10 +107,7 @@ starts M ch b j m law some most left zero live quiet free fit =
     record {
       stand = busy run 0;
       on = at_below M b j (busy run 0) some left (ap (busy run) (sym zero));
-      after = ap (λ q. cond (is_idle q) (with_run ch (run_answer M b j) m) m) free
-          ∙ ap (λ o. with_run ch o m) (run_told M b j some left)
-          ∙ ap (λ z. on_ok z m (λ _. opened ch run m)) taken
-          ∙ opened_placed ch run m quiet free;
+      after = let told = run_told M b j some left in let placed = opened_placed ch run m quiet free in cc;
     }
 
 -- after beat j the slave below follows to beat j + 1, or both are idle

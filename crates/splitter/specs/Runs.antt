@@ -1,5 +1,5 @@
 -- The runs that a burst goes down in: INCR bursts of at most M beats each.
-use Rattle.std.specs.Prelude.{ℕ, zero, suc, ◌+◌, ◌-◌, ◌*◌, ◌/◌, ◌^◌, cond, ◌&&◌, List, [], ◌∷◌, ◌++◌, Some, None, Option, ◌==◌, nat_lt}
+use Rattle.std.specs.Prelude.{ℕ, zero, suc, ◌+◌, ◌-◌, ◌*◌, ◌/◌, ◌^◌, min, cond, ◌&&◌, List, [], ◌∷◌, ◌++◌, Some, None, Option, ◌==◌, nat_lt}
 use Rattle.burst.specs.declared.raw.RawBurst.{RawBurst}
 use Rattle.burst.specs.Beats.{address_of, last_of, turn_of}
 
@@ -24,13 +24,9 @@ part_end b j = (part_of b.kind (turn b) b.count j).1
 unfoldable pub run_first : ℕ → RawBurst → ℕ → ℕ
 run_first M b j = part_first b j + (j - part_first b j) / M * M
 
--- the smaller of two numbers
-abbrev pub least : ℕ → ℕ → ℕ
-least a b = cond (nat_lt a b) a b
-
 -- the run of beat j; the last run of a part may be shorter
 unfoldable pub run_of : ℕ → RawBurst → ℕ → RawBurst
-run_of M b j = record { kind = 1; start = address_of b (run_first M b j); size = b.size; count = least M (part_end b j - run_first M b j) }
+run_of M b j = record { kind = 1; start = address_of b (run_first M b j); size = b.size; count = min M (part_end b j - run_first M b j) }
 
 -- which beat of its run beat j is
 unfoldable pub beat_in : ℕ → RawBurst → ℕ → ℕ

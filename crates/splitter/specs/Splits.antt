@@ -2,10 +2,9 @@
 use Rattle.std.specs.Prelude.{ℕ, Bool, true, false, cond, ◌&&◌, Some, None, Ok, Err, Option, Result, nat_le}
 use Rattle.burst.specs.declared.raw.RawBurst.{RawBurst}
 use Rattle.slave.specs.declared.answer.Channel.{Channel}
-use Rattle.slave.specs.declared.answer.Channel.TheVariants.{Write, Read}
 use Rattle.slave.specs.declared.answer.Response.{Response}
 use Rattle.slave.specs.declared.answer.Response.TheVariants.{Okay}
-use Rattle.slave.specs.declared.answer.ChannelState.{ChannelState}
+use Rattle.slave.specs.declared.answer.Channels.{Channels}
 use Rattle.slave.specs.declared.answer.Given.{Given}
 use Rattle.slave.specs.declared.answer.Given.TheVariants.{More, Done}
 use Rattle.slave.specs.declared.making.MakeFault.{MakeFault}
@@ -14,6 +13,7 @@ use Rattle.slave.specs.Meaning.{Meaning, Stand, idle, busy, dead, is_idle, is_at
 use Rattle.slave.specs.Lanes.{worse}
 use Rattle.slave.specs.Acts.{open_after}
 use Rattle.slave.specs.Making.{ready}
+use Rattle.splitter.specs.declared.making.Splitter.{Splitter}
 use Rattle.splitter.specs.Runs.{run_answer}
 
 -- the channel below stands at this beat of this run
@@ -48,9 +48,13 @@ split_shows w kept r m =
 abbrev pub split_of : ℕ → Stand → Response → Stand → Meaning → Meaning
 split_of M w kept r m = cond (fits M w r m) (split_shows w kept r m) dead
 
--- the same by the record of the two channels
-abbrev pub splits : ℕ → ChannelState → ChannelState → Meaning → Meaning
-splits M w r m = split_of M (told w.place) w.worst (told r.place) m
+-- the same by the record of both channels
+abbrev pub splits : ℕ → Channels → Meaning → Meaning
+splits M c m = split_of M (told c.write.place) c.write.worst (told c.read.place) m
+
+-- what a splitter shows, by what its slave below shows
+abbrev pub shows : {S : Type 0} → (S → Meaning) → Splitter S → Meaning
+shows meaning x = splits x.number x.channels (meaning x.below)
 
 -- whether a splitter in runs of M may be made over a slave
 abbrev pub make_answer : ℕ → Meaning → Result (Unit {0}) MakeFault
@@ -60,11 +64,6 @@ make_answer M m = cond (ready m) (cond (numbered M m) (Ok tt) (Err Measure)) (Er
 abbrev pub made_as : Result (Unit {0}) MakeFault → Meaning → Meaning
 made_as (Ok x) m = split_shows idle Okay idle m
 made_as (Err e) m = dead
-
--- one of the splitter's two places
-abbrev pub own_at : Channel → Stand → Stand → Stand
-own_at Write w r = w
-own_at Read w r = r
 
 -- the slave below with a run opened
 abbrev pub with_run : Channel → Option (RawBurst × ℕ) → Meaning → Meaning

@@ -1,18 +1,18 @@
 -- The runs of a burst: where their beats lie.
-use Rattle.std.specs.Prelude.{◌≡◌, ℕ, ◌+◌, ◌-◌, ◌*◌, ◌/◌, ◌%◌, ◌^◌, ◌<◌, ◌≤◌, cond, ◌⊎◌, ◌==◌, nat_lt, refl}
+use Rattle.std.specs.Prelude.{◌≡◌, ℕ, ◌+◌, ◌-◌, ◌*◌, ◌/◌, ◌%◌, ◌^◌, ◌<◌, ◌≤◌, cond, ◌⊎◌, ◌==◌, nat_lt}
 use native.Mathlib.Omega.{arith}
 use Rattle.std.proofs.Math.Nat.{add-mul}
 use Rattle.std.proofs.Common.{mul-div_cancel, zero-add, ◌∙◌}
 use Rattle.std.proofs.Math.Path.{sym, ap, subst}
-use Rattle.std.proofs.Math.Logic.{inl, inr, ⊎_elim}
+use Rattle.std.proofs.Math.Logic.{⊎_elim}
 use Rattle.std.proofs.Math.Arith.{digits_div}
 use Rattle.std.proofs.lemmas.Nat.{div-add-mod', mod_below, pow_pos}
-use Rattle.std.proofs.lemmas.Bool.{cond_both, cases_lt, cases_eq, lt-ltb, le-ltb, ltb-true, ltb-false}
+use Rattle.std.proofs.lemmas.Bool.{cases_lt, cases_eq, lt-ltb, le-ltb}
 use Rattle.burst.specs.declared.raw.RawBurst.{RawBurst}
 use Rattle.burst.specs.Beats.{first_refusal, address_of, last_of, incr_address, wrap_address}
 use Rattle.burst.proofs.Facts.{Facts, facts, round_power, size_fits, incr_lawful}
 use Rattle.burst.proofs.Walks.{incr_incr, incr_page, aligned_incr, low_aligned, wrap_first, wrap_second, first_page, second_page}
-use Rattle.splitter.specs.Runs.{turn, part_of, part_first, part_end, run_first, least, run_of, beat_in}
+use Rattle.splitter.specs.Runs.{turn, part_of, part_first, part_end, run_first, run_of, beat_in}
 
 -- the part F to S of a burst that beat j lies in: it goes straight on, within a page
 pub record Part (b : RawBurst) (j F S : ℕ) : Type 0 where
@@ -25,11 +25,7 @@ pub record Part (b : RawBurst) (j F S : ℕ) : Type 0 where
   pub fresh : S < b.count → part_first b S ≡ S
 
 at_kind : {A : Type 0} (k : ℕ) (x y z : A) → (k ≡ 0 → cond (k == 0) x (cond (k == 1) y z) ≡ x) × (k ≡ 1 → cond (k == 0) x (cond (k == 1) y z) ≡ y) × (k ≡ 2 → cond (k == 0) x (cond (k == 1) y z) ≡ z)
-at_kind k x y z = (
-  λ e. ap (λ k. cond (k == 0) x (cond (k == 1) y z)) e,
-  λ e. ap (λ k. cond (k == 0) x (cond (k == 1) y z)) e,
-  λ e. ap (λ k. cond (k == 0) x (cond (k == 1) y z)) e,
-)
+at_kind k x y z = (λ e. cc, λ e. cc, λ e. cc)
 
 module _ (b : RawBurst) (lawful : first_refusal 8 b ≡ 0) where
   abbrev N : ℕ
@@ -46,33 +42,29 @@ module _ (b : RawBurst) (lawful : first_refusal 8 b ≡ 0) where
   part_fixed : b.kind ≡ 0 → (j : ℕ) → j < b.count → Part b j j (j + 1)
   unfolding part_first part_end address_of
   part_fixed k j h =
-      let from : (i : ℕ) → part_first b i ≡ i = λ i. ap (λ p. p.0) ((at_part i).0 k) in
-      let stop : (i : ℕ) → part_end b i ≡ i + 1 = λ i. ap (λ p. p.1) ((at_part i).0 k) in
       let at : (i : ℕ) → address_of b i ≡ b.start = λ i. (at_kind b.kind b.start (incr_address b.start N i) (wrap_address b.start N b.count i)).0 k in
       record {
         low = omega arith;
         high = omega arith;
         within = omega arith;
-        straight = λ x l. at (j + x) ∙ sym (at j) ∙ sym (ap (λ y. incr_address (address_of b j) N y) (let z : x ≡ 0 = omega arith in z));
+        straight = λ x l. let a = at (j + x) in let z : x ≡ 0 = omega arith in let a0 = at j in cc;
         page = omega (arith, ap (λ y. y % 4096) (at j), known.fixed k, ap (λ y. y * N) (let z : j + 1 - j ≡ 1 = omega arith in z));
-        same = λ i l u. let e : i ≡ j = omega arith in (from i ∙ e, stop i ∙ ap (λ y. y + 1) e);
-        fresh = λ _. from (j + 1);
+        same = λ i l u. let p = (at_part i).0 k in let e : i ≡ j = omega arith in (cc, cc);
+        fresh = λ _. let p = (at_part (j + 1)).0 k in cc;
       }
 
   part_incr : b.kind ≡ 1 → (j : ℕ) → j < b.count → Part b j 0 b.count
   unfolding part_first part_end address_of
   part_incr k j h =
-      let from : (i : ℕ) → part_first b i ≡ 0 = λ i. ap (λ p. p.0) ((at_part i).1 k) in
-      let stop : (i : ℕ) → part_end b i ≡ b.count = λ i. ap (λ p. p.1) ((at_part i).1 k) in
       let at : (i : ℕ) → address_of b i ≡ incr_address b.start N i = λ i. (at_kind b.kind b.start (incr_address b.start N i) (wrap_address b.start N b.count i)).1 k in
       let at0 : address_of b 0 ≡ b.start = at 0 in
       record {
         low = omega arith;
         high = h;
         within = omega arith;
-        straight = λ x l. at (0 + x) ∙ ap (incr_address b.start N) (zero-add x) ∙ ap (λ y. incr_address y N x) (sym at0);
+        straight = λ x l. let a = at (0 + x) in let z = zero-add x in cc;
         page = omega (arith, ap (λ y. y % 4096) at0, known.incr k, ap (λ y. y * N) (let z : b.count - 0 ≡ b.count = omega arith in z));
-        same = λ i l u. (from i, stop i);
+        same = λ i l u. let p = (at_part i).1 k in (cc, cc);
         fresh = λ l. absurd (omega arith);
       }
 
@@ -82,8 +74,6 @@ module _ (b : RawBurst) (lawful : first_refusal 8 b ≡ 0) where
       let pos : 0 < N = pow_pos b.size in
       let some : 0 < b.count = known.low in
       let al = known.aligned k in
-      let from : (i : ℕ) → part_first b i ≡ (cond {A = ℕ × ℕ} (nat_lt i (turn b)) (0, turn b) (turn b, b.count)).0 = λ i. ap (λ p. p.0) ((at_part i).2 k) in
-      let stop : (i : ℕ) → part_end b i ≡ (cond {A = ℕ × ℕ} (nat_lt i (turn b)) (0, turn b) (turn b, b.count)).1 = λ i. ap (λ p. p.1) ((at_part i).2 k) in
       let at : (i : ℕ) → i < turn b → address_of b i ≡ b.start + i * N =
       λ i l. (at_kind b.kind b.start (incr_address b.start N i) (wrap_address b.start N b.count i)).2 k ∙ wrap_first b.start N b.count pos some al i l in
       let at0 : address_of b 0 ≡ b.start = at 0 (omega arith) ∙ (let z : b.start + 0 * N ≡ b.start = omega arith in z) in
@@ -92,10 +82,10 @@ module _ (b : RawBurst) (lawful : first_refusal 8 b ≡ 0) where
         low = omega arith;
         high = u;
         within = omega arith;
-        straight = λ x l. at (0 + x) l ∙ ap (λ y. b.start + y * N) (zero-add x) ∙ sym (aligned_incr b.start N x al) ∙ ap (λ y. incr_address y N x) (sym at0);
+        straight = λ x l. let a = at (0 + x) l in let z = zero-add x in let e = aligned_incr b.start N x al in cc;
         page = omega (arith, ap (λ y. y % 4096) at0, first_page b.start N b.count pos some al p.0 p.1 p.2, ap (λ y. y * N) (let z : turn b - 0 ≡ turn b = omega arith in z));
-        same = λ i l v. (from i ∙ ap (λ t. (cond {A = ℕ × ℕ} t (0, turn b) (turn b, b.count)).0) (lt-ltb i (turn b) v), stop i ∙ ap (λ t. (cond {A = ℕ × ℕ} t (0, turn b) (turn b, b.count)).1) (lt-ltb i (turn b) v));
-        fresh = λ l. from (turn b) ∙ ap (λ t. (cond {A = ℕ × ℕ} t (0, turn b) (turn b, b.count)).0) (le-ltb (turn b) (turn b) (omega arith));
+        same = λ i l v. let p = (at_part i).2 k in let t = lt-ltb i (turn b) v in (cc, cc);
+        fresh = λ l. let p = (at_part (turn b)).2 k in let t = le-ltb (turn b) (turn b) (omega arith) in cc;
       }
 
   part_wrap_second : b.kind ≡ 2 → (j : ℕ) → j < b.count → turn b ≤ j → Part b j (turn b) b.count
@@ -105,8 +95,6 @@ module _ (b : RawBurst) (lawful : first_refusal 8 b ≡ 0) where
       let some : 0 < b.count = known.low in
       let al = known.aligned k in
       let low : ℕ = b.start / (b.count * N) * (b.count * N) in
-      let from : (i : ℕ) → part_first b i ≡ (cond {A = ℕ × ℕ} (nat_lt i (turn b)) (0, turn b) (turn b, b.count)).0 = λ i. ap (λ p. p.0) ((at_part i).2 k) in
-      let stop : (i : ℕ) → part_end b i ≡ (cond {A = ℕ × ℕ} (nat_lt i (turn b)) (0, turn b) (turn b, b.count)).1 = λ i. ap (λ p. p.1) ((at_part i).2 k) in
       let at : (i : ℕ) → turn b + i < b.count → address_of b (turn b + i) ≡ low + i * N =
       λ i l. (at_kind b.kind b.start (incr_address b.start N (turn b + i)) (wrap_address b.start N b.count (turn b + i))).2 k
       ∙ wrap_second b.start N b.count pos some al (turn b + i) (omega arith) l ∙ ap (λ y. low + y * N) (let z : turn b + i - turn b ≡ i = omega arith in z) in
@@ -116,9 +104,9 @@ module _ (b : RawBurst) (lawful : first_refusal 8 b ≡ 0) where
         low = u;
         high = h;
         within = omega arith;
-        straight = λ x l. at x l ∙ sym (aligned_incr low N x (low_aligned b.start N b.count)) ∙ ap (λ y. incr_address y N x) (sym at0);
+        straight = λ x l. let a = at x l in let e = aligned_incr low N x (low_aligned b.start N b.count) in cc;
         page = omega (arith, ap (λ y. y % 4096) at0, second_page b.start N b.count pos some al p.0 p.1 p.2);
-        same = λ i l v. (from i ∙ ap (λ t. (cond {A = ℕ × ℕ} t (0, turn b) (turn b, b.count)).0) (le-ltb i (turn b) l), stop i ∙ ap (λ t. (cond {A = ℕ × ℕ} t (0, turn b) (turn b, b.count)).1) (le-ltb i (turn b) l));
+        same = λ i l v. let p = (at_part i).2 k in let t = le-ltb i (turn b) l in (cc, cc);
         fresh = λ l. absurd (omega arith);
       }
 
@@ -173,9 +161,7 @@ module _ (M : ℕ) (b : RawBurst) (j : ℕ) (lawful : first_refusal 8 b ≡ 0) (
       let hi = P.high in
       let bs = beat_short in
       let bb = run_base in
-      cond_both (nat_lt M (S - run_first M b j)) M (S - run_first M b j) Length
-      (λ t. let l = ltb-true M (S - run_first M b j) t in record { most = omega arith; inside = omega arith; ends = inl refl; has = bs })
-      (λ t. let l = ltb-false M (S - run_first M b j) t in record { most = l; inside = omega arith; ends = inr (omega arith); has = omega arith })
+      record { most = omega arith; inside = omega arith; ends = grind arith; has = omega arith }
 
   pub run_has : beat_in M b j < (run_of M b j).count
   run_has = length.has
@@ -192,17 +178,18 @@ module _ (M : ℕ) (b : RawBurst) (j : ℕ) (lawful : first_refusal 8 b ≡ 0) (
   run_walk i h =
       let l = length.inside in
       let s = P.straight in
-      ap (λ a. incr_address a (2 ^ b.size) i) (s x (omega arith))
-      ∙ incr_incr (address_of b F) (2 ^ b.size) x i (pow_pos b.size)
-      ∙ sym (s (x + i) (omega arith))
-      ∙ ap (address_of b) (let z : F + (x + i) ≡ F + x + i = omega arith in z)
+      let start = s x (omega arith) in
+      let both = incr_incr (address_of b F) (2 ^ b.size) x i (pow_pos b.size) in
+      let end = s (x + i) (omega arith) in
+      let z : F + (x + i) ≡ F + x + i = omega arith in
+      cc
 
   pub run_address : address_of (run_of M b j) (beat_in M b j) ≡ address_of b j
-  run_address = run_walk (beat_in M b j) run_has ∙ ap (address_of b) run_base
+  run_address = let walk = run_walk (beat_in M b j) run_has in let base = run_base in cc
 
   pub run_last : last_of (run_of M b j) (beat_in M b j) ≡ last_of b j
   unfolding last_of run_of
-  run_last = ap (λ a. a / 2 ^ b.size * 2 ^ b.size + 2 ^ b.size - 1) run_address
+  run_last = let e = run_address in cc
 
   run_page : (run_of M b j).start % 4096 + (run_of M b j).count * 2 ^ b.size ≤ 4096
   unfolding run_of run_first
@@ -230,7 +217,8 @@ module _ (M : ℕ) (b : RawBurst) (j : ℕ) (lawful : first_refusal 8 b ≡ 0) (
       let e : part_first b (j + 1) ≡ F = (P.same (j + 1) (omega arith) hi).0 in
       let short : beat_in M b j + 1 < M = omega (arith, l.most) in
       let d : j + 1 - F ≡ (j - F) / M * M + (beat_in M b j + 1) = omega (arith, div-add-mod' (j - F) M, beat_is) in
-      ap (λ f. f + (j + 1 - f) / M * M) e ∙ ap (λ y. F + y / M * M) d ∙ ap (λ y. F + y * M) (digits_div ((j - F) / M) short)
+      let q = digits_div ((j - F) / M) short in
+      cc
 
   pub next_left : beat_in M b j + 1 < (run_of M b j).count → j + 1 < b.count
   next_left h = omega (arith, length.inside, P.within, run_base)
@@ -241,8 +229,8 @@ module _ (M : ℕ) (b : RawBurst) (j : ℕ) (lawful : first_refusal 8 b ≡ 0) (
       let l = length.inside in
       let bb = run_base in
       let e : part_end b (j + 1) ≡ S = (P.same (j + 1) (omega (arith, P.low)) (omega arith)).1 in
-      ap (λ x. record { kind = 1; start = address_of b x; size = b.size; count = least M (part_end b (j + 1) - x) }) (base_next h)
-      ∙ ap (λ x. record { kind = 1; start = address_of b (run_first M b j); size = b.size; count = least M (x - run_first M b j) }) e
+      let base = base_next h in
+      cc
 
   pub next_beat : beat_in M b j + 1 < (run_of M b j).count → beat_in M b (j + 1) ≡ beat_in M b j + 1
   unfolding beat_in

@@ -1,25 +1,29 @@
 // The splitter as a slave: full, with the width, the bytes and the kinds below.
-ghost use Rattle.slave.specs.Meaning.{told, stand_at};
-ghost use Rattle.splitter.specs.Splits.{splits, run_below, run_stand};
+ghost use Rattle.slave.specs.Meaning.{stand_at};
+ghost use Rattle.splitter.specs.Splits.{shows, run_below, run_stand};
 ghost use Rattle.std.specs.Prelude.{◌≡◌, true};
-ghost use Rattle.splitter.specs.ShowsLemmas.{split_sound};
+ghost use Rattle.splitter.specs.ShowsLemmas.{shows_sound};
 
-use crate::making::Splitter;
-use crate::runs;
+use crate::making::{self, Splitter};
 use burst::{RawBurst, Width};
 use slave::{Channel, Given, Place, Response, Slave, SlaveFault};
 
 impl<S: Slave> Slave for Splitter<S> {
-    ghost meaning = { λ p. splits p.number p.write p.read (S.Slave.meaning p.below) };
+    ghost meaning = { shows S.meaning };
 
-    ghost sound = { λ x. split_sound x.number x.write.place x.write.worst x.read.place (S.Slave.meaning x.below) (S.Slave.sound x.below) };
+    ghost sound = { λ x. shows_sound S.meaning x (S.sound x.below) };
 
+    // Whether the slave below is live, takes the number's beats at once, and stands where the record implies.
     fn live(&self) -> bool {
-        self.alive()
+        self.below.live()
+            && making::takes(&self.below, self.number)
+            && self.on_place(Channel::Write)
+            && self.on_place(Channel::Read)
     }
 
+    // each adapter says this for itself: a body in the trait could not reach the slave below
     fn width(&self) -> Width {
-        if self.alive() {
+        if self.live() {
             self.below.width()
         } else {
             Width::Eight
@@ -27,20 +31,18 @@ impl<S: Slave> Slave for Splitter<S> {
     }
 
     fn most(&self) -> u16 {
-        self.most_beats()
+        burst::MOST_BEATS
     }
 
     fn full(&self) -> bool {
-        self.is_full()
+        true
     }
 
     fn place(&self, channel: Channel) -> Place {
-        if !self.alive() {
-            return Place::Idle;
-        }
-        match channel {
-            Channel::Write => self.write.place,
-            Channel::Read => self.read.place,
+        if self.live() {
+            self.channels.place(channel)
+        } else {
+            None
         }
     }
 
@@ -48,7 +50,7 @@ impl<S: Slave> Slave for Splitter<S> {
         if !self.live() {
             return Err(SlaveFault::Dead);
         }
-        if !self.place(channel).is_idle() {
+        if self.place(channel).is_some() {
             return Err(SlaveFault::AlreadyOpen);
         }
         let burst = slave::admitted(burst, self.width(), self.most(), self.full())?;
@@ -74,20 +76,10 @@ impl<S: Slave> Slave for Splitter<S> {
 impl<S: Slave> Splitter<S> {
     // The run that stands open below on a channel, and which beat of it is next; none while the channel is idle or the splitter dead.
     pub fn run_below(&self, channel: Channel) -> Option<(RawBurst, u16)>
-        ensures answer { result ≡ run_below self.now.number (stand_at (splits self.now.number self.now.write self.now.read (S.Slave.meaning self.now.below)) channel) }
-        ensures stands { (splits self.now.number self.now.write self.now.read (S.Slave.meaning self.now.below)).live ≡ true → stand_at (S.Slave.meaning self.now.below) channel ≡ run_stand result }
+        ensures answer { result ≡ run_below self.now.number (stand_at (shows S.meaning self.now) channel) }
+        ensures stands { (shows S.meaning self.now).live ≡ true → stand_at (S.meaning self.now.below) channel ≡ run_stand result }
     {
-        match self.stands(channel) {
-            Place::Idle => None,
-            Place::Open { burst, taken } => runs::run_at(burst, self.number, taken),
-        }
-    }
-
-    // The splitter's place, which the place below follows.
-    fn stands(&self, channel: Channel) -> Place
-        ensures place { told result ≡ stand_at (splits self.now.number self.now.write self.now.read (S.Slave.meaning self.now.below)) channel }
-        ensures below { (splits self.now.number self.now.write self.now.read (S.Slave.meaning self.now.below)).live ≡ true → stand_at (S.Slave.meaning self.now.below) channel ≡ run_stand (run_below self.now.number (told result)) }
-    {
-        self.place(channel)
+        let open = self.place(channel)?;
+        self.run_of(open)
     }
 }

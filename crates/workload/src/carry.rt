@@ -2,68 +2,54 @@
 ghost use Rattle.std.specs.Prelude.{◌≡◌, ℕ, ◌+◌, ◌-◌, ◌^◌, ◌<◌, ◌≤◌, length, if◌then◌else◌};
 ghost use Rattle.workload.specs.Carried.{in_frame, frame_byte, frame_word, frame_strobe};
 
-const LANES: u8 = 8;
-
-// Whether an address holds a byte of the frame that begins at `start`.
-fn is_in(frame: &[u8], start: u64, address: u64) -> bool
-    ensures { result ≡ in_frame frame.now start address }
-{
-    start <= address && address - start < frame.len() as u64
+// A frame, and the address of its first byte.
+#[derive(Clone, Copy)]
+pub struct Frame<'a> {
+    pub bytes: &'a [u8],
+    pub start: u32,
 }
 
-// The frame's byte at an address, 0 outside the frame.
-fn byte_at(frame: &[u8], start: u64, address: u64) -> u8
-    ensures { result ≡ frame_byte frame.now start address }
-{
-    if is_in(frame, start, address) {
-        frame[(address - start) as usize]
-    } else {
-        0
+impl Frame<'_> {
+    // Whether an address holds a byte of the frame.
+    fn holds(&self, address: u64) -> bool
+        ensures { result ≡ in_frame self.now.bytes.now self.now.start address }
+    {
+        let start = u64::from(self.start);
+        start <= address && address - start < self.bytes.len() as u64
     }
-}
 
-// The bit of lane i where its address holds a byte of the frame.
-fn bit_at(frame: &[u8], start: u64, address: u64, i: u8) -> u8
-    requires { i < 8 }
-    ensures value { result ≡ (if in_frame frame.now start address then 2 ^ i else 0) }
-    ensures bound { result ≤ 2 ^ i }
-{
-    if is_in(frame, start, address) {
-        1 << i
-    } else {
-        0
+    // The frame's byte at an address, 0 outside the frame.
+    fn byte_at(&self, address: u64) -> u8
+        ensures { result ≡ frame_byte self.now.bytes.now self.now.start address }
+    {
+        if self.holds(address) {
+            self.bytes[(address - u64::from(self.start)) as usize]
+        } else {
+            0
+        }
     }
-}
 
-// The word of the frame's bytes at the eight addresses from `first` on.
-fn word_at(frame: &[u8], start: u64, first: u64) -> u64
-    requires { first < 2 ^ 33 }
-    ensures { result ≡ frame_word frame.now start first }
-{
-    let mut lanes = [0u8; 8];
-    for i in 0..8usize {
-        lanes[i] = byte_at(frame, start, first + i as u64);
+    // The word of the frame's bytes at the eight addresses from `first` on.
+    fn word_at(&self, first: u64) -> u64
+        requires { first < 2 ^ 33 }
+        ensures { result ≡ frame_word self.now.bytes.now self.now.start first }
+    {
+        u64::from_le_bytes(std::array::from_fn(|i| self.byte_at(first + i as u64)))
     }
-    u64::from_le_bytes(lanes)
-}
 
-// The lanes of that word which hold a byte of the frame.
-fn strobe_at(frame: &[u8], start: u64, first: u64) -> u8
-    requires { first < 2 ^ 33 }
-    ensures { result ≡ frame_strobe frame.now start first }
-{
-    let mut mask = 0u8;
-    for i in 0..LANES {
-        mask += bit_at(frame, start, first + u64::from(i), i);
+    // The lanes of that word which hold a byte of the frame.
+    fn strobe_at(&self, first: u64) -> u8
+        requires { first < 2 ^ 33 }
+        ensures { result ≡ frame_strobe self.now.bytes.now self.now.start first }
+    {
+        burst::mask_of(|i| self.holds(first + u64::from(i)))
     }
-    mask
-}
 
-// The word and the strobe that carry the bytes of a frame at `start` over the aligned eight bytes from `first` on.
-pub fn carried(frame: &[u8], start: u32, first: u32) -> (u64, u8)
-    ensures { result ≡ (frame_word frame.now start first, frame_strobe frame.now start first) }
-{
-    let from = u64::from(start);
-    let at = u64::from(first);
-    (word_at(frame, from, at), strobe_at(frame, from, at))
+    // The word and the strobe that carry the frame's bytes over the aligned eight bytes from `first` on.
+    pub fn carried(&self, first: u32) -> (u64, u8)
+        ensures { result ≡ (frame_word self.now.bytes.now self.now.start first, frame_strobe self.now.bytes.now self.now.start first) }
+    {
+        let at = u64::from(first);
+        (self.word_at(at), self.strobe_at(at))
+    }
 }

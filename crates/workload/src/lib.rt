@@ -4,9 +4,7 @@
 mod acts;
 mod carry;
 mod step;
-mod steps;
 
-pub use acts::{frame_request, with_act, with_puts, with_takes};
-pub use carry::carried;
-pub use step::Step;
-pub use steps::{acts_of, with_step};
+pub use acts::frame_request;
+pub use carry::Frame;
+pub use step::{Puts, Step, acts_of, add_takes};

@@ -1,9 +1,10 @@
 // What requests, grants and beats do to a channel.
 ghost use Rattle.std.specs.Prelude.{◌≡◌, ◌+◌, ◌<◌, length, IfOk, Some};
+ghost use Rattle.std.specs.Option.{option_and_then};
 ghost use Rattle.fabric.specs.Rows.{moved};
 ghost use Rattle.fabric.specs.Picking.{ByRule};
 ghost use Rattle.fabric.specs.Channels.{queue_of, with_open, no_requests};
-ghost use Rattle.fabric.specs.Acts.{request_answer, request_after, grant_answer, grant_after, grant_slave, open_row_answer, open_row_after, open_row_slave};
+ghost use Rattle.fabric.specs.Acts.{request_answer, request_after, grant_answer, grant_after, grant_slave, open_row_answer, open_row_after, open_row_slave, put_test, take_test};
 
 use super::ChannelQueue;
 use crate::row::Open;
@@ -31,13 +32,6 @@ impl ChannelQueue {
         })
     }
 
-    // The open request.
-    pub(crate) fn current(&self) -> Option<Open>
-        ensures { result ≡ (queue_of self.now).current }
-    {
-        self.current
-    }
-
     // Lets all requests of the channel go.
     pub(crate) fn clear(&mut self)
         ensures { queue_of self.new ≡ no_requests }
@@ -54,9 +48,7 @@ impl ChannelQueue {
         if request.master > LAST_MASTER || request.qos > MOST_QOS {
             return Err(FabricFault::Source);
         }
-        if let Err(fault) = burst::check(request.burst, Width::Eight) {
-            return Err(FabricFault::Unlawful(fault));
-        }
+        burst::check(request.burst, Width::Eight)?;
         self.waiting.push(request)?;
         Ok(Answer::Accepted)
     }
@@ -88,23 +80,48 @@ impl ChannelQueue {
         match (self.current, self.waiting.pick()) {
             (Some(_), _) => Err(FabricFault::AlreadyOpen),
             (None, None) => Err(FabricFault::NoneWaiting),
-            (None, Some(_)) if !slave.place(channel).is_idle() => Err(FabricFault::Place),
+            (None, Some(_)) if slave.place(channel).is_some() => Err(FabricFault::Place),
             (None, Some(at)) => self.open_row(slave, channel, at),
         }
     }
 
-    // Counts a beat of the open request; the last one closes it.
-    pub(crate) fn advance(&mut self, going: Open)
-        requires { (queue_of self.old).current ≡ Some going }
-        ensures { queue_of self.new ≡ with_open (moved going) (queue_of self.old) }
+    // The open write, once it passes the tests of a put: its master, the slave's place, the last mark.
+    pub(crate) fn going_for_put<S: Slave>(
+        &self,
+        slave: &S,
+        master: u8,
+        last: bool,
+    ) -> Result<Open, FabricFault>
+        ensures { result ≡ put_test (queue_of self.now).current (S.Slave.meaning slave.now) master last }
     {
-        self.current = if going.is_last() {
-            None
-        } else {
-            Some(Open {
-                request: going.request,
-                taken: going.taken + 1,
-            })
-        };
+        let going = self.current.ok_or(FabricFault::NotOpen)?;
+        if going.request.master != master {
+            return Err(FabricFault::OtherMaster);
+        }
+        if !going.stands(slave, Channel::Write) {
+            return Err(FabricFault::Place);
+        }
+        if last != going.is_last() {
+            return Err(FabricFault::LastMark);
+        }
+        Ok(going)
+    }
+
+    // The open read, once it passes the test of a take: the slave's place.
+    pub(crate) fn going_for_take<S: Slave>(&self, slave: &S) -> Result<Open, FabricFault>
+        ensures { result ≡ take_test (queue_of self.now).current (S.Slave.meaning slave.now) }
+    {
+        let going = self.current.ok_or(FabricFault::NotOpen)?;
+        if !going.stands(slave, Channel::Read) {
+            return Err(FabricFault::Place);
+        }
+        Ok(going)
+    }
+
+    // Counts a beat of the open request; the last one closes it.
+    pub(crate) fn advance(&mut self)
+        ensures { queue_of self.new ≡ with_open (option_and_then moved (queue_of self.old).current) (queue_of self.old) }
+    {
+        self.current = self.current.and_then(Open::next);
     }
 }

@@ -7,23 +7,16 @@ ghost use Rattle.std.specs.List.{remove};
 
 use super::{MOST_WAITING, Waiting};
 use crate::picking::pick;
-use crate::row::{Row, TOP};
+use crate::row::Row;
 use crate::types::{FabricFault, Request};
 use std::alloc::{AllocError, Global};
-
-// One more age, up to the highest rank.
-fn grow(row: &mut Row)
-    ensures { row.new ≡ older row.old }
-{
-    row.age = row.age.saturating_add(1).min(TOP);
-}
 
 // Every row gets one more age.
 fn age_all(rows: &mut [Row])
     ensures { rows.new ≡ map older rows.old }
 {
-    for row in rows.iter_mut() {
-        grow(row);
+    for row in rows {
+        row.grow();
     }
 }
 
@@ -36,19 +29,12 @@ impl Waiting {
         Ok(Waiting { rows })
     }
 
-    // How many requests wait.
-    pub(crate) fn len(&self) -> usize
-        ensures { result ≡ length (rows_of self.now) }
-    {
-        self.rows.len()
-    }
-
     // Adds a request of age 0 at the end; refused exactly where sixteen wait.
     pub(crate) fn push(&mut self, request: Request) -> Result<(), FabricFault>
         ensures answer { result ≡ room_answer (rows_of self.old) }
         ensures after { rows_of self.new ≡ rows_with request (rows_of self.old) }
     {
-        if self.len() >= MOST_WAITING {
+        if self.rows.len() >= MOST_WAITING {
             return Err(FabricFault::Full);
         }
         self.rows.push_reserved(Row { request, age: 0 });
@@ -61,7 +47,7 @@ impl Waiting {
         ensures rule { ByRule (rows_of self.now) }
         ensures inside { IfSome result (λ k. k < length (rows_of self.now)) }
     {
-        pick(self.rows.as_slice())
+        pick(&self.rows)
     }
 
     // The request of a row.
@@ -78,7 +64,7 @@ impl Waiting {
         ensures { rows_of self.new ≡ map older (remove (rows_of self.old) i) }
     {
         self.rows.remove(i);
-        age_all(self.rows.as_mut_slice());
+        age_all(&mut self.rows);
     }
 
     // Lets all waiting requests go.

@@ -5,52 +5,45 @@ ghost use Rattle.report.specs.Lines.{line, written};
 ghost use Rattle.report.specs.Outcomes.{write_answer};
 ghost use Rattle.report.specs.Texts.{text};
 
-use super::Line;
+use super::{LINE_BYTES, Line};
 use crate::told::{ReportFault, Told};
 
 impl Line {
-    // The line of an act's outcome, and the law of all lines.
+    // The line of an act's outcome.
+    #[tactic(auto, using(crate::proofs::Pushes::cut_more, crate::proofs::Lengths::line_whole))]
     fn of(act: u32, told: Told) -> Line
-        ensures text { text result ≡ line act told }
-        ensures law { LinesTell }
+        ensures { text result ≡ line act told }
     {
         let mut line = Line::new();
         line.number(act);
-        line.byte(b' ');
+        line.push(b" ");
         line.told(told);
-        line.byte(b'\n');
+        line.push(b"\n");
         line
-    }
-
-    // How many bytes stand.
-    fn count(&self) -> usize
-        ensures value { result ≡ length (text self.now) }
-        ensures most { result ≤ 64 }
-    {
-        self.len
     }
 
     // Copies the line to the front of a buffer; one that is too short is left as it was.
     fn write_to(&self, out: &mut [u8]) -> Result<usize, ReportFault>
         ensures answer { result ≡ write_answer (text self.now) out.old }
         ensures after { out.new ≡ written (text self.now) out.old }
-        ensures most { length (text self.now) ≤ 64 }
     {
-        let n = self.len;
+        let n = self.bytes.len();
+        // not by `get_mut(..n)`: std's contract does not tell what the buffer holds after it
         if out.len() < n {
             return Err(ReportFault::Short);
         }
-        out[0..n].copy_from_slice(&self.bytes[0..n]);
+        out[..n].copy_from_slice(&self.bytes);
         Ok(n)
     }
 }
 
 // Writes the line of an act's outcome to the front of a buffer and answers its length. A buffer that is shorter than
 // the line is refused and left as it was; bytes behind the line stay. No line is longer than 64 bytes.
+#[tactic(auto, using(crate::proofs::Telling::lines_tell))]
 pub fn write_line(out: &mut [u8], act: u32, told: Told) -> Result<usize, ReportFault>
     ensures answer { result ≡ write_answer (line act told) out.old }
     ensures after { out.new ≡ written (line act told) out.old }
-    ensures most { length (line act told) ≤ 64 }
+    ensures most { length (line act told) ≤ LINE_BYTES }
     ensures law { LinesTell }
 {
     Line::of(act, told).write_to(out)
@@ -59,7 +52,7 @@ pub fn write_line(out: &mut [u8], act: u32, told: Told) -> Result<usize, ReportF
 // How many bytes the line of an act's outcome has, its end counted.
 pub fn line_length(act: u32, told: Told) -> usize
     ensures value { result ≡ length (line act told) }
-    ensures most { result ≤ 64 }
+    ensures most { result ≤ LINE_BYTES }
 {
-    Line::of(act, told).count()
+    Line::of(act, told).bytes.len()
 }

@@ -1,85 +1,67 @@
-// The words of an outcome at the end of a line. A number of the act takes at most eleven bytes before them.
-ghost use Rattle.std.specs.Prelude.{◌≡◌, ◌+◌, ◌<◌, ◌≤◌, ◌++◌};
-ghost use Rattle.report.specs.Lines.{answer_words, last_word, layer_letter, response_name, source, words as told_words};
-ghost use Rattle.report.specs.Texts.{text};
+// The words of an outcome at the end of a line.
+ghost use Rattle.std.specs.Prelude.{◌≡◌, ◌++◌};
+ghost use Rattle.report.specs.Laws.{AnswerFits, ToldFits};
+ghost use Rattle.report.specs.Lines.{answer_words, last_word, response_name, source, words as told_words};
+ghost use Rattle.report.specs.Texts.{cut, text};
 
 use super::Line;
-use crate::told::{Layer, Told};
+use crate::told::{Refusal, Told};
 use fabric::Answer;
 use slave::Response;
 
-// The letter of a layer.
-fn letter(layer: Layer) -> u8
-    ensures { result ≡ layer_letter layer }
+// The name of a response.
+fn response_name(response: Response) -> &'static [u8]
+    ensures { result.now ≡ response_name response }
 {
-    match layer {
-        Layer::Slave => b'S',
-        Layer::Fabric => b'F',
-        Layer::Bench => b'B',
+    match response {
+        Response::Okay => b"OKAY",
+        Response::SlvErr => b"SLVERR",
+        Response::DecErr => b"DECERR",
     }
 }
 
-impl Line {
-    // The name of a response.
-    fn response(&mut self, response: Response)
-        requires { self.old.len + 6 ≤ 64 }
-        ensures text { text self.new ≡ text self.old ++ response_name response }
-        ensures len { self.new.len ≤ self.old.len + 6 }
-    {
-        match response {
-            Response::Okay => self.words(b"OKAY"),
-            Response::SlvErr => self.words(b"SLVERR"),
-            Response::DecErr => self.words(b"DECERR"),
-        }
-    }
+// The mark of a read's last beat.
+fn last_word(left: u16) -> &'static [u8]
+    ensures { result.now ≡ last_word left }
+{
+    if left == 0 { b" LAST" } else { b"" }
+}
 
+#[tactic(auto, using(crate::proofs::Pushes::cut_more))]
+impl Line {
     // A master and an ID.
     fn source(&mut self, master: u8, id: u8)
-        requires { self.old.len + 8 ≤ 64 }
-        ensures text { text self.new ≡ text self.old ++ source master id }
-        ensures len { self.new.len ≤ self.old.len + 8 }
+        ensures { text self.new ≡ cut (text self.old ++ source master id) }
     {
-        self.short_number(u16::from(master));
-        self.byte(b' ');
+        self.number(u32::from(master));
+        self.push(b" ");
         self.hex2(id);
-    }
-
-    // The mark of a read's last beat.
-    fn last(&mut self, left: u16)
-        requires { self.old.len + 5 ≤ 64 }
-        ensures text { text self.new ≡ text self.old ++ last_word left }
-        ensures len { self.new.len ≤ self.old.len + 5 }
-    {
-        if left == 0 {
-            self.words(b" LAST");
-        }
     }
 
     // An answer's words.
     fn answer(&mut self, answer: Answer)
-        requires { self.old.len ≤ 11 }
-        ensures text { text self.new ≡ text self.old ++ answer_words answer }
-        ensures len { self.new.len < 64 }
+        ensures text { text self.new ≡ cut (text self.old ++ answer_words answer) }
+        ensures fits { AnswerFits answer }
     {
         match answer {
-            Answer::Accepted => self.words(b"ACC"),
+            Answer::Accepted => self.push(b"ACC"),
             Answer::Granted { master, id } => {
-                self.words(b"GRT ");
+                self.push(b"GRT ");
                 self.source(master, id);
             }
             Answer::More(left) => {
-                self.words(b"MORE ");
-                self.short_number(left);
+                self.push(b"MORE ");
+                self.number(u32::from(left));
             }
             Answer::Done {
                 master,
                 id,
                 response,
             } => {
-                self.words(b"B ");
+                self.push(b"B ");
                 self.source(master, id);
-                self.byte(b' ');
-                self.response(response);
+                self.push(b" ");
+                self.push(response_name(response));
             }
             Answer::Beat {
                 master,
@@ -88,30 +70,28 @@ impl Line {
                 response,
                 left,
             } => {
-                self.words(b"R ");
+                self.push(b"R ");
                 self.source(master, id);
-                self.byte(b' ');
+                self.push(b" ");
                 self.hex16(word);
-                self.byte(b' ');
-                self.response(response);
-                self.last(left);
+                self.push(b" ");
+                self.push(response_name(response));
+                self.push(last_word(left));
             }
         }
     }
 
     // An outcome's words.
     pub(crate) fn told(&mut self, told: Told)
-        requires { self.old.len ≤ 11 }
-        ensures text { text self.new ≡ text self.old ++ told_words told }
-        ensures len { self.new.len < 64 }
+        ensures text { text self.new ≡ cut (text self.old ++ told_words told) }
+        ensures fits { ToldFits told }
     {
         match told {
-            Told::Answer(answer) => self.answer(answer),
-            Told::Fault { layer, number } => {
-                self.words(b"ERR ");
-                self.byte(letter(layer));
-                self.byte(b' ');
-                self.short_number(u16::from(number));
+            Ok(answer) => self.answer(answer),
+            Err(Refusal { layer, number }) => {
+                self.push(b"ERR ");
+                self.push(&[layer.letter(), b' ']);
+                self.number(u32::from(number));
             }
         }
     }

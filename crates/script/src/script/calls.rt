@@ -1,25 +1,30 @@
 // A file as a script, and the script's parts.
-ghost use Rattle.std.specs.Prelude.{◌≡◌, ◌/◌, length};
-ghost use Rattle.script.specs.Files.{fits as header_fits};
-ghost use Rattle.script.specs.Files.{Opened, Split, record_at};
+ghost use Rattle.std.specs.Prelude.{◌≡◌, ℕ, ◌/◌, length, slice_get};
+ghost use Rattle.script.specs.Files.{Opened, Split, fits as header_fits, record_at};
 ghost use Rattle.script.specs.Laws.{FilesParted};
 ghost use Rattle.std.specs.Option.{option_map};
 
 use super::Script;
-use crate::bytes::number;
 use crate::fault::ScriptFault;
 use crate::record::RECORD;
 
-// The limits of a script.
-const MOST_ACTS: u32 = 2048;
+// The most acts of a script.
+pub const MOST_ACTS: usize = 2048;
 
-const MOST_IMAGE: u32 = 8192;
+// The most bytes of its image.
+const MOST_IMAGE: usize = 8192;
+
+// The bytes of the header: two numbers of four.
+const HEADER: usize = 8;
+
+// The most bytes of a script.
+pub const MOST_BYTES: usize = HEADER + RECORD * MOST_ACTS + MOST_IMAGE;
 
 // The two numbers at the start of a file.
-#[derive(Clone, Copy, PartialEq, Eq)]
+#[derive(Clone, Copy)]
 pub struct Header {
-    acts: u32,
-    image: u32,
+    acts: usize,
+    image: usize,
 }
 
 impl Header {
@@ -28,7 +33,7 @@ impl Header {
         ensures { result ≡ header_fits self bytes }
     {
         let Header { acts, image } = self;
-        acts <= MOST_ACTS && image <= MOST_IMAGE && bytes == RECORD * acts as usize + image as usize
+        acts <= MOST_ACTS && image <= MOST_IMAGE && bytes == RECORD * acts + image
     }
 }
 
@@ -37,12 +42,13 @@ fn split_header(file: &[u8]) -> Result<(Header, &[u8]), ScriptFault>
     ensures law { FilesParted }
     ensures answer { Split file.now result }
 {
-    let [a, b, c, d, e, f, g, h, rest @ ..] = file else {
+    let &[a, b, c, d, e, f, g, h, ref rest @ ..] = file else {
         return Err(ScriptFault::Header);
     };
+    // casts that widen, since usize has no From<u32>
     let header = Header {
-        acts: number(*a, *b, *c, *d),
-        image: number(*e, *f, *g, *h),
+        acts: u32::from_le_bytes([a, b, c, d]) as usize,
+        image: u32::from_le_bytes([e, f, g, h]) as usize,
     };
     Ok((header, rest))
 }
@@ -56,7 +62,7 @@ pub fn open(file: &[u8]) -> Result<Script<'_>, ScriptFault>
     if !header.fits(rest.len()) {
         return Err(ScriptFault::Header);
     }
-    let (records, image) = rest.split_at(RECORD * header.acts as usize);
+    let (records, image) = rest.split_at(RECORD * header.acts);
     Ok(Script { records, image })
 }
 
@@ -68,14 +74,19 @@ impl<'a> Script<'a> {
         self.records.len() / RECORD
     }
 
+    // The records of the acts.
+    pub fn records(&self) -> &'a [[u8; RECORD]]
+        ensures count { length result.now ≡ length self.now.records.now / 24 }
+        ensures each { (i : ℕ) → slice_get result.now i ≡ record_at self.now.records.now i }
+    {
+        self.records.as_chunks().0
+    }
+
     // The record of an act, none past the last.
     pub fn record(&self, i: usize) -> Option<&'a [u8]>
         ensures { option_map (λ x. x.now) result ≡ record_at self.now.records.now i }
     {
-        if i >= self.acts() {
-            return None;
-        }
-        Some(&self.records[RECORD * i..RECORD * i + RECORD])
+        self.records().get(i).map(|record| record.as_slice())
     }
 
     // The image.

@@ -5,15 +5,15 @@ use Rattle.history.specs.Tracks.{channels_after}
 use Rattle.script.specs.Files.{header_of, opens, records_of, image_of}
 use Rattle.bench.specs.Piles.{loaded}
 use Rattle.bench.specs.Runs.{runs, room_of}
-use Rattle.bench.proofs.Calls.{answer_is, after_is, runs_is, acts_are, acts_few, image_fits, same_report, same_history, same_law, length_loaded, never_runs}
+use Rattle.bench.proofs.Calls.{answer_is, after_is, runs_is, acts_are, image_fits, same_report, same_history, same_law, length_loaded, never_runs}
 use Rattle.bench.proofs.pile.run.Goals as goal
 
-pub returns-then-len-ne-MEMORY : goal.returns-then-len-ne-MEMORY
-returns-then-len-ne-MEMORY c =
+pub returns-then-len-ne-MEMORY_BYTES : goal.returns-then-len-ne-MEMORY_BYTES
+returns-then-len-ne-MEMORY_BYTES c =
     let f : List ℕ = c.args.file.now in
     let M : ℕ = vec_len c.args.memory in
     let room : ℕ = length c.args.report.now in
-    let ne : eqb M 8192 ≡ false = ne_eqb M 8192 (λ e. c.if-len-ne-MEMORY.true (c.len.ensures ∙ e)) in
+    let ne : eqb M 8192 ≡ false = ne_eqb M 8192 (λ e. c.if-len-ne-MEMORY_BYTES.true (c.len.ensures ∙ e)) in
     let no : runs f M room ≡ false = never_runs f M room ne in
     record {
       answer = sym (cond-false (eqb M 8192) _ _ ne);
@@ -28,7 +28,7 @@ returns-then-report-acts c =
     let f : List ℕ = c.args.file.now in
     let M : ℕ = vec_len c.args.memory in
     let out : List ℕ = c.args.report.now in
-    let size : M ≡ 8192 = sym c.len.ensures ∙ c.if-len-ne-MEMORY.false in
+    let size : M ≡ 8192 = sym c.len.ensures ∙ c.if-len-ne-MEMORY_BYTES.false in
     let o : opens f ≡ true = c.in-Ok.ensures.answer.0 in
     let acts : length c.in-Ok.script.records.now / 24 ≡ (header_of f).acts = acts_are f _ c.open.ensures.law o c.in-Ok.ensures.answer.1 in
     let full : leb (64 * (header_of f).acts) (length out) ≡ false = lt-leb _ _ (subst (λ (k : ℕ). length out < 64 * k) (c.acts.ensures ∙ acts) c.if-report-acts.true) in
@@ -43,7 +43,7 @@ returns-then-report-acts c =
 
 pub with_image-memory-requires : goal.with_image-memory-requires
 with_image-memory-requires c =
-    let size : vec_len c.args.memory ≡ 8192 = sym c.len.ensures ∙ c.if-len-ne-MEMORY.false in
+    let size : vec_len c.args.memory ≡ 8192 = sym c.len.ensures ∙ c.if-len-ne-MEMORY_BYTES.false in
     subst (λ (k : ℕ). length c.image.result.now ≤ k) (sym size)
     (image_fits c.args.file.now c.image.result.now c.open.ensures.law c.in-Ok.ensures.answer.0 (c.image.ensures ∙ c.in-Ok.ensures.answer.2))
 
@@ -51,12 +51,11 @@ pub run_over-requires : goal.run_over-requires
 run_over-requires c =
     let f : List ℕ = c.args.file.now in
     let M : ℕ = vec_len c.args.memory in
-    let size : M ≡ 8192 = sym c.len.ensures ∙ c.if-len-ne-MEMORY.false in
+    let size : M ≡ 8192 = sym c.len.ensures ∙ c.if-len-ne-MEMORY_BYTES.false in
     let o : opens f ≡ true = c.in-Ok.ensures.answer.0 in
     let acts : length c.in-Ok.script.records.now / 24 ≡ (header_of f).acts = acts_are f _ c.open.ensures.law o c.in-Ok.ensures.answer.1 in
     let mem : vec_items c.with_image-memory.result ≡ loaded (image_of f) 8192 = c.with_image-memory.ensures ∙ ap (λ (z : List ℕ). loaded z M) (c.image.ensures ∙ c.in-Ok.ensures.answer.2) ∙ ap (loaded (image_of f)) size in
     record {
-      few = subst (λ (k : ℕ). k ≤ 2048) (sym acts) (acts_few f c.open.ensures.law o);
       room = subst (λ (k : ℕ). 64 * k ≤ length c.args.report.now) c.acts.ensures c.if-report-acts.false;
       memory = c.with_image-memory.result.ok.0 ∙ ap length mem ∙ length_loaded (image_of f) 8192 (image_fits f (image_of f) c.open.ensures.law o refl);
     }
@@ -66,7 +65,7 @@ returns c =
     let f : List ℕ = c.args.file.now in
     let M : ℕ = vec_len c.args.memory in
     let out : List ℕ = c.args.report.now in
-    let size : M ≡ 8192 = sym c.len.ensures ∙ c.if-len-ne-MEMORY.false in
+    let size : M ≡ 8192 = sym c.len.ensures ∙ c.if-len-ne-MEMORY_BYTES.false in
     let o : opens f ≡ true = c.in-Ok.ensures.answer.0 in
     let parts : c.in-Ok.script.records.now ≡ records_of f = c.in-Ok.ensures.answer.1 in
     let acts : length c.in-Ok.script.records.now / 24 ≡ (header_of f).acts = acts_are f _ c.open.ensures.law o parts in

@@ -15,7 +15,7 @@ run_script-requires c =
     let xs : List ℕ = vec_items c.args.memory in
     let size : length xs ≡ 8192 = sym c.args.memory.ok.0 ∙ c.requires.memory in
     let whole = c.new-slice.ensures ∙ ap slice_made (c.new-converter.ensures ∙ ap (λ (z : Meaning). converted_made z 8) (c.new-splitter.ensures ∙ ap (λ (z : Meaning). made_as (make_answer 8 z) z) c.new-ram.ensures)) in
-    record { few = c.requires.few; room = c.requires.room; fits = ap fits_below whole ∙ pile_fits xs size }
+    record { room = c.requires.room; fits = ap fits_below whole ∙ pile_fits xs size }
 
 pub returns : goal.returns
 returns c =

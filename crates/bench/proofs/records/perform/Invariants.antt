@@ -6,4 +6,4 @@ use Rattle.bench.proofs.records.perform.Given as goal
 -- the records so far are a run, and their lines are written
 abbrev pub invariant-loop-i : goal.invariant-loop-i
 invariant-loop-i g l =
-    Sofar (board (g.S.Slave.meaning l.initial.slave)) l.script.records.now l.i l.initial.report l.report l.at (channels_of l.fabric) (g.S.Slave.meaning l.slave)
+    Sofar (board (g.S.Slave.meaning l.initial.slave)) l.fn.script.records.now l.i l.initial.report l.report l.at (channels_of l.fabric) (g.S.Slave.meaning l.slave)

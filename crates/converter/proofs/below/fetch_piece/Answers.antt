@@ -1,27 +1,28 @@
-use Rattle.slave.specs.declared.answer.Channel.TheVariants.{Read}
-use Rattle.slave.specs.Acts.{open_after, take_answer}
-use Rattle.converter.specs.Sent.{got_of}
-use Rattle.converter.specs.Pieces.{piece_burst}
 use Rattle.std.proofs.Common.{ap, ◌∙◌}
+use Rattle.burst.specs.Rules.{width_bytes}
+use Rattle.slave.specs.declared.answer.Channel.TheVariants.{Read}
+use Rattle.slave.specs.Acts.{open_after, take_after}
 use Rattle.converter.specs.Spans.{moved_word}
-use Rattle.converter.specs.Parts.{part_lawful, part_read, part_read_worst}
+use Rattle.converter.proofs.Cuts.{beat_on}
+use Rattle.converter.proofs.Parts.{part_read, part_fetched}
 use Rattle.converter.proofs.below.fetch_piece.Goals as goal
-
-pub read_one-got-requires : goal.read_one-got-requires
-read_one-got-requires g c =
-    let m = g.S.Slave.meaning c.args.below.now in
-    record { ready = c.requires.ready; lawful = part_lawful m c.args.narrow c.args.first c.args.last c.args.code c.requires.bus c.requires.piece }
 
 pub returns : goal.returns
 returns g c =
-    let m = g.S.Slave.meaning c.args.below.now in
+    let x = c.args.below.now in
+    let m = g.S.Slave.meaning x in
+    let p = c.args.piece in
+    let v = width_bytes p.bus in
+    let n1 = g.S.Slave.meaning c.open.new.self in
+    let n2 = g.S.Slave.meaning c.take.new.self in
+    let o = c.open.ensures.after ∙ ap (open_after m Read) c.alone.ensures in
+    let got = c.got-got.ensures in
+    let e = part_read m v p.cover.first p.cover.last p.size c.requires.bus (beat_on p) (g.met.S.Slave.sound x) c.requires.ready n1 n2 c.take.result o c.take.ensures.answer c.take.ensures.after in
     record {
-      word = c.move_word.ensures ∙ ap (λ x. moved_word c.args.word x c.args.base c.args.first c.args.last c.args.narrow)
-          (part_read m c.args.narrow c.args.first c.args.last c.args.code c.requires.bus c.requires.piece c.read_one-got.result.0 c.read_one-got.ensures.word);
-      worst = part_read_worst m c.args.narrow c.args.first c.args.last c.args.code c.requires.bus c.requires.piece c.read_one-got.result.1 c.read_one-got.ensures.worst;
-      after = c.read_one-got.ensures.after;
-      got = ap (λ z. (z, c.read_one-got.result.1)) c.move_word.ensures
-          ∙ ap (λ z. (moved_word c.args.word z.0 c.args.base c.args.first c.args.last c.args.narrow, z.1)) c.read_one-got.ensures.got
-          ∙ ap (λ v. (moved_word c.args.word (got_of (take_answer (open_after m Read (piece_burst c.args.code c.args.first)))).0 c.args.base c.args.first c.args.last v, (got_of (take_answer (open_after m Read (piece_burst c.args.code c.args.first)))).1)) c.requires.bus;
-      sent = c.read_one-got.ensures.sent;
+      word = c.word.ensures ∙ ap (λ z. moved_word c.args.word z c.args.base p.cover.first p.cover.last v) (ap (λ z. z.0) got ∙ e.0);
+      worst = ap (λ z. z.1) got ∙ e.1;
+      after = e.2;
+      got = ap (λ z. (z, c.got-got.result.1)) c.word.ensures ∙ ap (λ z. (moved_word c.args.word z.0 c.args.base p.cover.first p.cover.last v, z.1)) got
+          ∙ part_fetched m v p.cover.first p.cover.last p.size c.requires.bus (beat_on p) (g.met.S.Slave.sound x) c.requires.ready n1 n2 c.take.result o c.take.ensures.answer c.take.ensures.after c.args.word c.args.base;
+      sent = c.take.ensures.after ∙ ap take_after o;
     }

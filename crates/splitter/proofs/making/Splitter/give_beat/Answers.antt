@@ -1,40 +1,31 @@
-use Rattle.std.proofs.Common.{ap, ◌∙◌}
+use Rattle.std.proofs.Common.{refl, ap, ◌∙◌}
+use Rattle.std.proofs.lemmas.Result.{err_from_is_err_and}
 use Rattle.slave.specs.declared.answer.Channel.TheVariants.{Write}
-use Rattle.slave.specs.declared.answer.Step.TheVariants.{Beat}
-use Rattle.slave.specs.Acts.{step_answer, step_place, step_worst}
 use Rattle.slave.specs.Meaning.{told}
-use Rattle.splitter.specs.Splits.{split_of, follow_after, run_response}
-use Rattle.splitter.specs.ShowsLemmas.{split_alike}
+use Rattle.splitter.specs.Splits.{follow_after}
+use Rattle.splitter.specs.ShowsLemmas.{shows_as}
 use Rattle.splitter.proofs.Gives.{gave, gave_refused}
 use Rattle.splitter.proofs.making.Splitter.give_beat.Goals as goal
 
-pub returns-in-Err : goal.returns-in-Err
-returns-in-Err g c =
+pub returns-in_err-given : goal.returns-in_err-given
+returns-in_err-given g c =
     let r = c.args.self.now in
-    let p = gave_refused r.number r.write.place r.write.worst (told r.read.place) (g.S.Slave.meaning r.below) c.args.word c.args.strobe
-    (g.met.S.Slave.sound r.below) c.requires c.in-Err.fault c.in-Err.ensures.answer in
-    record {
-      answer = p.0;
-      after = ap (split_of r.number (told r.write.place) r.write.worst (told r.read.place)) c.give.ensures.after ∙ p.1;
-    }
+    let e = err_from_is_err_and c.from_residual.result c.from_residual.ensures.1 in
+    let p = gave_refused r.number r.channels (g.S.Slave.meaning r.below) c.args.word c.args.strobe (g.met.S.Slave.sound r.below) c.requires
+    c.in_err-given.field-0.0 c.in_err-given.ensures.answer in
+    let after = c.give.ensures.after in
+    record { answer = cc; after = cc }
 
-pub returns-in-Ok : goal.returns-in-Ok
-returns-in-Ok g c =
+pub returns : goal.returns
+returns g c =
     let r = c.args.self.now in
-    let own = told r.write.place in
-    let kept = r.write.worst in
-    let given = c.in-Ok.given in
-    let x = c.run_response.ensures in
-    let e = c.follow.ensures in
+    let write = c.step-answer.new.self in
     let step = c.step-answer.ensures in
-    let place = step.place ∙ ap (λ y. step_place own (Beat y)) x in
-    let p = gave r.number r.write.place kept (told r.read.place) (g.S.Slave.meaning r.below) c.args.word c.args.strobe
-    (g.met.S.Slave.sound r.below) c.requires given c.in-Ok.ensures.answer in
+    let follow = c.follow.ensures in
+    let p = gave r.number r.channels (g.S.Slave.meaning r.below) c.args.word c.args.strobe (g.met.S.Slave.sound r.below) c.requires
+    c.in_ok-given.given c.in_ok-given.ensures.answer c.run_response.result c.run_response.ensures (record { write = write; read = r.channels.read }) step.place step.worst refl in
     record {
-      answer = step.answer ∙ ap (λ y. step_answer own kept (Beat y)) x ∙ p.0;
-      after = split_alike _ _ _ _ _ _ _ _ _ _ e.number (ap (λ y. told y.place) e.write ∙ place)
-          (ap (λ y. y.worst) e.write ∙ step.worst ∙ ap (λ y. step_worst own kept (Beat y)) x) (ap (λ y. told y.place) e.read)
-          (e.below ∙ ap (λ y. follow_after r.number Write y (g.S.Slave.meaning c.give.new.self)) place
-          ∙ ap (follow_after r.number Write (step_place own (Beat (run_response given)))) c.give.ensures.after)
+      answer = step.answer ∙ p.0;
+      after = shows_as g.S.Slave.meaning c.follow.new.self _ _ _ follow.number follow.channels (follow.below ∙ ap (follow_after r.number Write (told write.place)) c.give.ensures.after)
           ∙ p.1;
     }

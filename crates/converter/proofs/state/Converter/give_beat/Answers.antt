@@ -1,0 +1,32 @@
+use Rattle.std.proofs.Common.{ap}
+use Rattle.burst.specs.Beats.{raw_of}
+use Rattle.slave.specs.declared.answer.Channel.TheVariants.{Write}
+use Rattle.slave.specs.Meaning.{told}
+use Rattle.converter.proofs.Told.{open_lawful_for, beat_opens, given}
+use Rattle.converter.proofs.state.Converter.give_beat.Goals as goal
+
+pub next_of-beat-requires : goal.next_of-beat-requires
+next_of-beat-requires g c =
+    let x = c.args.self.now in
+    open_lawful_for x.width x.channels (g.S.Slave.meaning x.below) c.args.bus Write c.args.at c.requires.alive x.opens c.requires.stands
+
+pub invariant_of-self : goal.invariant_of-self
+invariant_of-self g c =
+    let x = c.args.self.now in
+    record {
+      opens = beat_opens x.width x.channels (g.S.Slave.meaning x.below) c.args.bus Write c.args.at c.requires.alive x.opens c.requires.stands
+          c.step.new.self c.send-response.result c.step.ensures.place c.step.ensures.stays;
+    }
+
+pub returns : goal.returns
+returns g c =
+    let x = c.args.self.now in
+    let m = g.S.Slave.meaning x.below in
+    let b = raw_of c.args.at.burst in
+    let y = c.next_of-beat.result in
+    let lawful = open_lawful_for x.width x.channels m c.args.bus Write c.args.at c.requires.alive x.opens c.requires.stands in
+    let e = c.send-response.ensures in
+    let s = c.step.ensures in
+    let r = given x.width x.channels c.step.new.self m (g.S.Slave.meaning c.send-response.new.slave) c.args.bus y.bus b c.args.at.taken y.cover c.requires.alive lawful c.next_of-beat.ensures.cover c.next_of-beat.ensures.bus
+    c.args.word c.args.strobe c.send-response.result c.step.result (ap told c.requires.stands) c.requires.kept e.worst e.after s.answer s.place s.worst s.stays in
+    record { answer = r.0; after = r.1 }

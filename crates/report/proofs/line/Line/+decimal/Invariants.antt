@@ -1,4 +1,0 @@
-use Rattle.report.proofs.line.Line.+decimal.Given as goal
-
-abbrev pub decreases-decimal : goal.decreases-decimal
-decreases-decimal l = l.n

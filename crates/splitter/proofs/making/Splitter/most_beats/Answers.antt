@@ -1,8 +1,0 @@
-use Rattle.slave.specs.Meaning.{told}
-use Rattle.splitter.specs.ShowsLemmas.{split_most}
-use Rattle.splitter.proofs.making.Splitter.most_beats.Goals as goal
-
-pub returns : goal.returns
-returns g c =
-    let r = c.args.self.now in
-    split_most r.number (told r.write.place) r.write.worst (told r.read.place) (g.S.Slave.meaning r.below)
