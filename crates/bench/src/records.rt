@@ -37,7 +37,8 @@ fn perform_act<S: Slave>(
     lift(number, history::act(fabric, slave, act))
 }
 
-// Writes a line behind the first `at` bytes of a report and answers where it ends.
+// Writes a line behind the first `at` bytes of a report and answers where it ends. The report is one lent buffer that the
+// lines fill, since the bench wants no memory of its own.
 fn tell(report: &mut [u8], at: usize, number: u32, told: Told) -> usize
     requires { at + 64 ≤ length report.old }
     ensures end { result ≡ at + length (line number told) }
@@ -61,6 +62,7 @@ fn perform<S: Slave>(
 {
     let mut at = 0;
     for (i, record) in script.records().iter().enumerate() {
+        // by the index: with `(1u32..).zip(..)` the goals of the loop stayed open
         let number = i as u32 + 1;
         let outcome = perform_act(fabric, slave, number, read_act(record));
         at = tell(report, at, number, told_of(outcome));

@@ -1,5 +1,5 @@
 -- What the rules say of a lawful burst, and blocks of bytes.
-use Rattle.std.proofs.Common.{◌≡◌, ℕ, ◌+◌, ◌-◌, ◌*◌, ◌/◌, ◌%◌, ◌^◌, ◌<◌, ◌≤◌, Bool, true, false, cond, ◌⊎◌, sym, refl, ap, ◌∙◌, subst, inl, inr, ⊎_elim, mul_assoc, add-mul, arith, pow_mono, ltb, le-ltb}
+use Rattle.std.proofs.Common.{◌≡◌, ℕ, ◌+◌, ◌-◌, ◌*◌, ◌/◌, ◌%◌, ◌^◌, ◌<◌, ◌≤◌, Bool, true, false, cond, ◌⊎◌, sym, refl, ap, ◌∙◌, subst, inl, inr, ⊎_elim, Some, None, Option, mul_assoc, add-mul, arith, pow_mono, ltb, le-ltb}
 use lib.Pow.{pow-lt}
 use Rattle.std.proofs.lemmas.Nat.{mul-le, shr_below, pow-add, div-add-mod', mod_below, pow_pos, div_below}
 use Rattle.std.proofs.lemmas.Bool.{cases_lt}
@@ -135,3 +135,8 @@ second_test false false r x h e = ap (λ t. cond t 2 x) e ∙ h
 -- a lawful burst is lawful for every width that its beats fit
 pub narrower : (w k a s n : ℕ) → refusal 8 k a s n ≡ 0 → 2 ^ s ≤ w → refusal w k a s n ≡ 0
 narrower w k a s n h l = second_test (ltb 2 k) (ltb 8 (2 ^ s)) (ltb w (2 ^ s)) _ h (le-ltb w (2 ^ s) l)
+
+-- what an answer tells where there is one
+pub some_is : {A : Type 0} (t : Bool) (v x : A) (o : Option A) → o ≡ cond t (Some v) None → o ≡ Some x → x ≡ v
+some_is true v x o e f = let g : Some v ≡ Some x = sym e ∙ f in cc
+some_is false v x o e f = let g : None ≡ Some x = sym e ∙ f in absurd (let z : ◌≡◌ {A = ℕ} 0 1 = cc in omega arith)

@@ -38,11 +38,9 @@ fn main(rt: HostRuntime) -> anyhow::Result<()> {
         let memory = vec![in heap; 0u8; MEMORY_BYTES]?;
         let mut fabric = Fabric::new(heap)?;
         if !agrees(&file, &report, memory, &mut fabric, &mut out) {
+            println!(rt; "differs: {name}")?;
             differing.push(name)?;
         }
-    }
-    for name in &differing {
-        println!(rt; "differs: {name}")?;
     }
     let differ = differing.len();
     let agree = names.lines().count().saturating_sub(differ);

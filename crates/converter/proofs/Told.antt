@@ -1,5 +1,5 @@
 -- The converter's calls, over what the walks over the pieces have done.
-use Rattle.std.proofs.Common.{◌≡◌, ℕ, ◌+◌, ◌*◌, ◌/◌, Bool, true, false, cond, ltb, Some, None, Option, Ok, Result, sym, refl, ◌∙◌, ap, subst, arith}
+use Rattle.std.proofs.Common.{◌<◌, ◌≡◌, ℕ, ◌+◌, ◌*◌, ◌/◌, Bool, true, false, cond, ltb, Some, None, Option, Ok, Result, sym, refl, ◌∙◌, ap, subst, arith}
 use Rattle.std.specs.Option.{ForSome}
 use Rattle.std.proofs.lemmas.Bool.Decides.{nat_tests}
 use Rattle.burst.specs.declared.checked.Burst.{Burst}
@@ -24,7 +24,7 @@ use Rattle.slave.specs.Making.{ready}
 use Rattle.slave.specs.Meaning.{Meaning, Stand, idle, busy, told, sound_stand, with_write, with_read}
 use Rattle.slave.specs.Lanes.{stray, worse, read_word, shown}
 use Rattle.slave.specs.Acts.{give_answer, give_after, take_answer, take_after, past, left, worst_after, step_answer, step_place, step_worst}
-use Rattle.slave.proofs.Calls.{open_lawful, give_taken, take_taken}
+use Rattle.slave.proofs.Calls.{open_left, open_lawful, give_taken, take_taken}
 use Rattle.slave.proofs.Soundness.{step_sound}
 use Rattle.slave.specs.Channels.{worst_at}
 use Rattle.converter.specs.Shows.{shows, answering, shown_at, converted}
@@ -84,6 +84,10 @@ module _ (o : Option Width) (c : Channels) (m : Meaning) (W : Width) (ch : Chann
   -- it is lawful for the width
   pub open_lawful_for : first_refusal (width_bytes W) (raw_of x.burst) ≡ 0
   open_lawful_for = open_lawful (width_bytes W) (told (state_at ch c).place) (raw_of x.burst) x.taken (opens ch W (answers o m W alive).0) stands_at
+
+  -- and a beat of it is left
+  pub open_left_for : x.taken < x.burst.count
+  open_left_for = open_left (width_bytes W) (told (state_at ch c).place) (raw_of x.burst) x.taken (opens ch W (answers o m W alive).0) stands_at
 
   -- a beat of it leaves the channels sound
   pub beat_opens : (d : Channels) (r : Response) → told (state_at ch d).place ≡ step_place (told (state_at ch c).place) (Beat r) → state_at (other ch) d ≡ state_at (other ch) c → Opens o d

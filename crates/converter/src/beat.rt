@@ -1,5 +1,5 @@
 // A beat on a bus, and the pieces that it is cut into for the bus below.
-ghost use Rattle.std.specs.Prelude.{◌≡◌, ◌*◌, ◌/◌, ◌^◌, ◌≤◌, IfSome};
+ghost use Rattle.std.specs.Prelude.{◌≡◌, ◌*◌, ◌/◌, ◌^◌, ◌<◌, ◌≤◌, IfSome};
 ghost use Rattle.std.specs.Option.{ForSome};
 ghost use Rattle.std.specs.Iterator.{YieldsFirstBy, item_count};
 ghost use Rattle.burst.specs.Rules.{width_bytes};
@@ -24,13 +24,14 @@ pub(crate) struct BusBeat {
 impl BusBeat {
     // The next beat of an open burst that is lawful for the bus.
     pub(crate) fn next_of(at: OpenBurst, bus: Width) -> BusBeat
-        requires { first_refusal (width_bytes bus) (raw_of at.burst) ≡ 0 }
+        requires lawful { first_refusal (width_bytes bus) (raw_of at.burst) ≡ 0 }
+        requires left { at.taken < at.burst.count }
         ensures cover { result.cover ≡ record { first = address_of (raw_of at.burst) at.taken; last = last_of (raw_of at.burst) at.taken } }
         ensures size { result.size ≡ at.burst.size }
         ensures bus { result.bus ≡ bus }
     {
         BusBeat {
-            cover: at.cover(),
+            cover: at.cover().unwrap(),
             size: at.burst.size,
             bus,
         }

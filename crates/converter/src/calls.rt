@@ -46,7 +46,7 @@ impl<S: Slave> Slave for Converter<S> {
     fn give(&mut self, word: u64, strobe: u8) -> Result<Given, SlaveFault> {
         let bus = self.alive().ok_or(SlaveFault::Dead)?;
         let open = self.channels.write.place.ok_or(SlaveFault::NotOpen)?;
-        if open.strays(bus, strobe) {
+        if self.strays(open, bus, strobe) {
             return Err(SlaveFault::Strobe);
         }
         self.give_beat(open, bus, word, strobe)

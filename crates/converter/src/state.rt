@@ -55,6 +55,15 @@ impl<S: Slave> Converter<S> {
         let _ = self.channels.step(channel, Step::Open(burst));
     }
 
+    // Whether a strobe leaves the lanes of the next beat of the open write.
+    pub(crate) fn strays(&self, at: OpenBurst, bus: Width, strobe: u8) -> bool
+        requires alive { answering self.now.width (S.Slave.meaning self.now.below) ≡ Some bus }
+        requires stands { self.now.channels.write.place ≡ Some at }
+        ensures { result ≡ stray (width_bytes bus) (address_of (raw_of at.burst) at.taken) (last_of (raw_of at.burst) at.taken) strobe }
+    {
+        at.strays(bus, strobe)
+    }
+
     // Takes the next beat of the open write, whose strobe keeps to its lanes.
     pub(crate) fn give_beat(
         &mut self,

@@ -17,7 +17,8 @@ pub struct Row {
     pub age: u8,
 }
 
-// The open request with the number of beats taken. That one is left is an invariant of the channel and not of this record,
+// The open request with the number of beats taken: a request as it was asked for, and so no `OpenBurst` of a slave, of which
+// the burst is checked. That a beat is left is an invariant of the channel and not of this record,
 // since definitions make such records with nothing known of the beats.
 #[derive(Clone, Copy)]
 pub struct Open {

@@ -109,7 +109,7 @@ mod tests {
         let grant_write = Act::Grant(Channel::Write);
         let grant_read = Act::Grant(Channel::Read);
         let acts = [
-            // an unaligned BurstKind::Incr write, read while it is half given
+            // an unaligned INCR write, read while it is half given
             WRITER.asks(1, BurstKind::Incr, 0x101, 3, 3),
             grant_write,
             READER.asks(2, BurstKind::Incr, 0x100, 3, 4),

@@ -41,7 +41,7 @@ impl Port {
         })
     }
 
-    // Opens a burst on a channel.
+    // Opens a burst on a channel. The converter opens alike; one call for both would want five arguments for three lines.
     pub(crate) fn open(&mut self, channel: Channel, burst: RawBurst) -> Result<(), SlaveFault>
         ensures answer { (xs : List ℕ) → result ≡ open_answer (through self.old xs) channel burst }
         ensures after { (xs : List ℕ) → through self.new xs ≡ open_after (through self.old xs) channel burst }
@@ -68,7 +68,13 @@ impl Port {
         if open.strays(self.width, strobe) {
             return Err(SlaveFault::Strobe);
         }
-        let here = memory::store_word(memory, open.cover().first, self.width, word, strobe);
+        let here = memory::store_word(
+            memory,
+            open.cover().unwrap().first,
+            self.width,
+            word,
+            strobe,
+        );
         self.channels.write.step(Step::Beat(here))
     }
 
@@ -78,7 +84,7 @@ impl Port {
         ensures after { through self.new memory.now ≡ take_after (through self.old memory.now) }
     {
         let open = self.channels.read.place.ok_or(SlaveFault::NotOpen)?;
-        let cover = open.cover();
+        let cover = open.cover().unwrap();
         let word = memory::load_word(memory, cover, self.width);
         let response = memory::load_worst(memory, cover, self.width);
         self.channels.read.step(Step::Beat(response))?;

@@ -14,7 +14,8 @@ pub struct Opened {
     pub burst: RawBurst,
 }
 
-// A slot that is not filled. By hand: a channel and a raw burst have no default of their own.
+// A slot that is not filled. By hand: a derive would want a default of a channel and of a raw burst, and there is none that
+// another crate should meet.
 impl Default for Opened {
     ghost is_default = { λ x. x ≡ empty };
 

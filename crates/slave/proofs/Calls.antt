@@ -1,5 +1,5 @@
 -- Calls of a slave by what it shows: which answer they get, and what they leave as it is.
-use Rattle.std.proofs.Common.{◌≡◌, ℕ, ◌≤◌, Bool, true, false, cond, not, ◌&&◌, ◌||◌, eqb, ltb, Ok, Err, Result, sym, refl, ap, ◌∙◌, subst, arith}
+use Rattle.std.proofs.Common.{ltb-true, ◌<◌, ◌≡◌, ℕ, ◌≤◌, Bool, true, false, cond, not, ◌&&◌, ◌||◌, eqb, ltb, Ok, Err, Result, sym, refl, ap, ◌∙◌, subst, arith}
 use Rattle.std.proofs.lemmas.Bool.{cond-true, cond-false, true≢false, and_parts, and_from, eqb-true, eq-eqb, le-ltb}
 use Rattle.burst.specs.declared.raw.RawBurst.{RawBurst}
 use Rattle.burst.specs.Rules.{fault_at}
@@ -149,3 +149,7 @@ ready_parts m h =
     let p = and_parts m.live (is_idle m.write && is_idle m.read) h in
     let q = and_parts (is_idle m.write) (is_idle m.read) p.1 in
     (p.0, idle_is m.write q.0, idle_is m.read q.1)
+
+-- an open burst has a beat left and is lawful for the width
+pub open_left : (w : ℕ) (p : Stand) (b : RawBurst) (k : ℕ) → sound_stand w p ≡ true → p ≡ busy b k → k < b.count
+open_left w p b k h e = ltb-true k b.count (and_parts (ltb k b.count) (eqb (first_refusal w b) 0) (subst (λ q. sound_stand w q ≡ true) e h)).0

@@ -1,6 +1,4 @@
 // What a slave answers, and where its channels stand.
-ghost use Rattle.std.specs.Prelude.{◌<◌};
-
 use burst::{Burst, BurstFault};
 
 // How a beat went, by its number on the bus; a larger one is worse.
@@ -28,12 +26,11 @@ pub enum Channel {
     Read,
 }
 
-// An open burst with the number of beats taken. Another is left.
+// An open burst with the number of beats taken. Any two may stand here; of a slave's own place a law says that a beat is left.
 #[derive(Clone, Copy)]
 pub struct OpenBurst {
     pub burst: Burst,
     pub taken: u16,
-    ghost left: { taken < burst.count },
 }
 
 // Where a channel stands: at the open burst, or idle.

@@ -36,7 +36,7 @@ pub trait Slave {
         ensures answer { result ≡ open_answer (meaning self.old) channel burst }
         ensures after { meaning self.new ≡ open_after (meaning self.old) channel burst };
 
-    // gives the next write beat: word and strobe are the two that a beat brings, and every caller has them apart
+    // gives the next write beat: word and strobe are the two that a beat brings, as the interface names them
     fn give(&mut self, word: u64, strobe: u8) -> Result<Given, SlaveFault>
         ensures answer { result ≡ give_answer (meaning self.old) word strobe }
         ensures after { meaning self.new ≡ give_after (meaning self.old) word strobe };

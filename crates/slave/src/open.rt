@@ -1,9 +1,9 @@
 // The next beat of an open burst.
-ghost use Rattle.std.specs.Prelude.{◌≡◌, Some, None};
+ghost use Rattle.std.specs.Prelude.{◌≡◌, ◌<◌, ◌≤◌, Some, None};
 ghost use Rattle.burst.specs.Rules.{width_bytes};
-ghost use Rattle.burst.specs.Beats.{raw_of, address_of, last_of, lane_mask};
+ghost use Rattle.burst.specs.Beats.{raw_of, address_of, last_of, cover_answer};
 ghost use Rattle.slave.specs.Acts.{past, left};
-ghost use Rattle.slave.specs.Lanes.{stray};
+ghost use Rattle.slave.specs.Lanes.{outside, stray};
 ghost use Rattle.slave.specs.Meaning.{told, busy, is_at};
 
 use crate::answer::OpenBurst;
@@ -25,32 +25,29 @@ impl OpenBurst {
         self.burst.raw() == burst && self.taken == taken
     }
 
-    // The bytes that the next beat covers.
-    pub fn cover(self) -> Cover
-        ensures { result ≡ record { first = address_of (raw_of self.burst) self.taken; last = last_of (raw_of self.burst) self.taken } }
+    // The bytes that the next beat covers; none where no beat is left.
+    pub fn cover(self) -> Option<Cover>
+        ensures { result ≡ cover_answer (raw_of self.burst) self.taken }
     {
-        self.burst.cover(self.taken).unwrap()
+        self.burst.cover(self.taken)
     }
 
-    // The lanes that the next beat uses on a bus of this width.
-    fn lanes(self, width: Width) -> u8
-        ensures { result ≡ lane_mask (width_bytes width) (address_of (raw_of self.burst) self.taken) (last_of (raw_of self.burst) self.taken) }
-    {
-        self.burst.lanes(self.taken, width).unwrap()
-    }
-
-    // Whether a strobe leaves the lanes of the next beat.
+    // Whether a strobe leaves the lanes of the next beat; where no beat is left, there are no lanes.
     pub fn strays(self, width: Width, strobe: u8) -> bool
-        ensures { result ≡ stray (width_bytes width) (address_of (raw_of self.burst) self.taken) (last_of (raw_of self.burst) self.taken) strobe }
+        ensures left { self.taken < self.burst.count → result ≡ stray (width_bytes width) (address_of (raw_of self.burst) self.taken) (last_of (raw_of self.burst) self.taken) strobe }
+        ensures none_left { self.burst.count ≤ self.taken → result ≡ outside 0 strobe }
     {
-        lanes::strays(self.lanes(width), strobe)
+        lanes::strays(self.burst.lanes(self.taken, width).unwrap_or(0), strobe)
     }
 
     // The beats left after the next one.
     pub fn left(self) -> u16
         ensures { result ≡ left (raw_of self.burst) self.taken }
     {
-        self.burst.count - (self.taken + 1)
+        self.burst
+            .count
+            .saturating_sub(self.taken)
+            .saturating_sub(1)
     }
 
     // The burst with the next beat taken; none after the last.

@@ -37,7 +37,7 @@ stand_sound M w None q h s = refl
 stand_sound M w (Some o) q h s =
     let b = raw_of o.burst in
     let law = lawful_here M b o.taken w q o.burst.lawful h s in
-    let left = o.left in
+    let left = (below_at M b o.taken q h).left in
     grind (arith, nat_tests)
 
 quiet_worst : (p : Stand) (kept here : Response) → is_idle p ≡ true → worst_of p kept here ≡ Okay

@@ -52,6 +52,7 @@ pub fn add_takes(acts: &mut Vec<Act>, beats: u16) -> Result<(), AllocError>
     acts.extend(repeat_n(Act::Take, usize::from(beats)))
 }
 
+// A step is data, which a program writes down in a list, and no switch.
 #[derive(Clone, Copy)]
 pub enum Step {
     // one act

@@ -2,13 +2,13 @@ use Rattle.std.proofs.Common.{Ok, ap, ◌∙◌}
 use Rattle.burst.specs.Beats.{raw_of}
 use Rattle.slave.specs.declared.answer.Channel.TheVariants.{Read}
 use Rattle.slave.specs.Meaning.{told}
-use Rattle.converter.proofs.Told.{open_lawful_for, beat_opens, took}
+use Rattle.converter.proofs.Told.{open_lawful_for, open_left_for, beat_opens, took}
 use Rattle.converter.proofs.state.Converter.take_beat.Goals as goal
 
 pub next_of-beat-requires : goal.next_of-beat-requires
 next_of-beat-requires g c =
     let x = c.args.self.now in
-    open_lawful_for x.width x.channels (g.S.Slave.meaning x.below) c.args.bus Read c.args.at c.requires.alive x.opens c.requires.stands
+    record { lawful = open_lawful_for x.width x.channels (g.S.Slave.meaning x.below) c.args.bus Read c.args.at c.requires.alive x.opens c.requires.stands; left = open_left_for x.width x.channels (g.S.Slave.meaning x.below) c.args.bus Read c.args.at c.requires.alive x.opens c.requires.stands }
 
 pub invariant_of-self : goal.invariant_of-self
 invariant_of-self g c =
