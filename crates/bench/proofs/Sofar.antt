@@ -1,22 +1,21 @@
 -- One record more in a run.
-use Rattle.std.proofs.Common.{◌≡◌, ℕ, suc, ◌+◌, ◌*◌, ◌≤◌, List, [], ◌∷◌, ◌++◌, length, take, drop, Ok, Err, Result, sym, refl, ap, ◌∙◌, subst, arith, length-append}
+use Rattle.std.proofs.Common.{◌≡◌, ℕ, zero, suc, ◌+◌, ◌/◌, ◌<◌, ◌≤◌, List, [], ◌++◌, length, drop, Result, sym, refl, ap, ◌∙◌, subst, arith, length-append, ⊎_elim}
+use Rattle.std.proofs.lemmas.Bool.{cases_lt}
 use Rattle.slave.specs.Meaning.{Meaning}
 use Rattle.fabric.specs.declared.types.Act.{Act}
 use Rattle.fabric.specs.declared.types.Answer.{Answer}
-use Rattle.fabric.specs.declared.types.FabricFault.{FabricFault}
 use Rattle.fabric.specs.Channels.{Channels}
 use Rattle.history.specs.History.{History}
 use Rattle.history.specs.Bytes.{Board}
-use Rattle.history.specs.Tracks.{Tracks, Extends}
+use Rattle.history.specs.Tracks.{Tracks}
 use Rattle.history.proofs.Whole.{runs_hold}
 use Rattle.report.specs.Outcomes.{Told}
 use Rattle.report.specs.Lines.{line}
 use Rattle.script.specs.declared.fault.ScriptFault.{ScriptFault}
 use Rattle.bench.specs.declared.fault.BenchFault.{BenchFault}
-use Rattle.bench.specs.declared.fault.BenchFault.TheVariants.{Record}
-use Rattle.bench.specs.Outcomes.{act_at, ends, goes, lifted, told_of}
-use Rattle.bench.specs.Reports.{EndsRight, Reported, history_until, report_until, line_at}
-use Rattle.bench.proofs.Texts.{length_in_front, text_more}
+use Rattle.bench.specs.Outcomes.{act_at, ends, goes, told_of}
+use Rattle.bench.specs.Reports.{EndsRight, Ran, history_until, report_until, line_at, script_history, script_report}
+use Rattle.bench.proofs.Texts.{length_in_front}
 
 -- nothing is done before the first record
 pub until_none : (m : Board) (records : List ℕ) → (history_until m records 0 ≡ []) × (report_until m records 0 ≡ [])
@@ -33,59 +32,70 @@ pub report_until_more : (m : Board) (records : List ℕ) (i : ℕ) → report_un
 unfolding report_until
 report_until_more m records i = refl
 
--- what stands after the first i records: their run, and their lines in a buffer
-pub record Sofar (m : Board) (records : List ℕ) (i : ℕ) (before buf : List ℕ) (end : ℕ) (c : Channels) (s : Meaning) : Type 0 where
+-- as many records have no shorter report
+same_length : (m : Board) (records : List ℕ) (i n : ℕ) → i ≡ n → length (report_until m records i) ≤ length (report_until m records n)
+same_length m records i n e = let l = ap (λ k. length (report_until m records k)) e in omega arith
+
+-- nor have more records
+pub longer : (m : Board) (records : List ℕ) (i n : ℕ) → i ≤ n → length (report_until m records i) ≤ length (report_until m records n)
+longer m records i zero l = let e : i ≡ 0 = omega arith in same_length m records i 0 e
+longer m records i (suc n) l =
+    ⊎_elim
+    (λ (s : i < suc n).
+    let shorter = longer m records i n (omega arith) in
+    let more = ap length (report_until_more m records n) ∙ length-append (report_until m records n) (line_at m records n) in
+    omega arith)
+    (λ (e : suc n ≤ i). same_length m records i (suc n) (omega arith))
+    (cases_lt i (suc n))
+
+-- what stands after the first i records: their run, and how long their report is
+pub record Sofar (m : Board) (records : List ℕ) (i : ℕ) (bytes : ℕ) (c : Channels) (s : Meaning) : Type 0 where
   pub run : Tracks m (history_until m records i) c s
-  pub at : end ≡ length (report_until m records i)
-  pub report : buf ≡ report_until m records i ++ drop (length (report_until m records i)) before
-  pub within : end ≤ 64 * i
+  pub at : bytes ≡ length (report_until m records i)
 
 -- before the first record
-pub sofar_none : (m : Board) (records before : List ℕ) (c : Channels) (s : Meaning) → Tracks m [] c s → Sofar m records 0 before before 0 c s
-sofar_none m records before c s t =
+pub sofar_none : (m : Board) (records : List ℕ) (c : Channels) (s : Meaning) → Tracks m [] c s → Sofar m records 0 0 c s
+sofar_none m records c s t =
     let none = until_none m records in
-    record {
-      run = subst (λ (h : History). Tracks m h c s) (sym none.0) t;
-      at = sym (ap length none.1);
-      report = sym (ap (λ z. z ++ drop (length z) before) none.1);
-      within = omega arith;
-    }
+    record { run = subst (λ (h : History). Tracks m h c s) (sym none.0) t; at = sym (ap length none.1) }
 
--- there is room for one line more
-pub sofar_room : (m : Board) (records : List ℕ) (i : ℕ) (before buf : List ℕ) (at : ℕ) (c : Channels) (s : Meaning)
-    → Sofar m records i before buf at c s → 64 * i + 64 ≤ length before → at + 64 ≤ length buf
-sofar_room m records i before buf at c s f l =
-    let a = f.at in
-    let w = f.within in
-    let n : length buf ≡ length before = ap length f.report ∙ length_in_front (report_until m records i) before (omega arith) in
-    omega arith
-
--- after one record more
-pub sofar_more : (m : Board) (records : List ℕ) (i n : ℕ) (act : Result Act ScriptFault) (r : Result Answer BenchFault) (told : Told) (c : Channels) (s : Meaning) (c' : Channels) (s' : Meaning)
-    (before buf buf' : List ℕ) (at at' : ℕ)
-    → n ≡ suc i → act ≡ act_at records i → EndsRight c s n act r c' s' → told ≡ told_of r → Sofar m records i before buf at c s
-    → at' ≡ at + length (line n told) → at' ≤ at + 64 → buf' ≡ take at buf ++ (line n told ++ drop (at + length (line n told)) buf) → Sofar m records n before buf' at' c' s'
-sofar_more m records i n act r told c s c' s' before buf buf' at at' up a x t f e l b =
+-- the report of one record more has its line behind the others
+pub line_more : (m : Board) (records : List ℕ) (i n : ℕ) (act : Result Act ScriptFault) (r : Result Answer BenchFault) (told : Told) (c : Channels) (s : Meaning) (c' : Channels) (s' : Meaning) (bytes : ℕ)
+    → n ≡ suc i → act ≡ act_at records i → EndsRight c s n act r c' s' → told ≡ told_of r → Sofar m records i bytes c s → report_until m records n ≡ report_until m records i ++ line n told
+line_more m records i n act r told c s c' s' bytes up a x t f =
     let h : History = history_until m records i in
     let told_is : told ≡ told_of (ends m h (suc i) (act_at records i)) = t ∙ ap told_of (x.outcome m h f.run ∙ ap (λ k. ends m h k act) up ∙ ap (ends m h (suc i)) a) in
     let line-is : line n told ≡ line_at m records i = ap (λ k. line k told) up ∙ ap (line (suc i)) told_is in
-    let more : report_until m records n ≡ report_until m records i ++ line n told = ap (report_until m records) up ∙ report_until_more m records i ∙ ap (λ z. report_until m records i ++ z) (sym line-is) in
-    let w = f.within in
+    ap (report_until m records) up ∙ report_until_more m records i ∙ ap (λ z. report_until m records i ++ z) (sym line-is)
+
+-- after one record more
+pub sofar_more : (m : Board) (records : List ℕ) (i n : ℕ) (act : Result Act ScriptFault) (r : Result Answer BenchFault) (told : Told) (c : Channels) (s : Meaning) (c' : Channels) (s' : Meaning) (bytes bytes' : ℕ)
+    → n ≡ suc i → act ≡ act_at records i → EndsRight c s n act r c' s' → told ≡ told_of r → Sofar m records i bytes c s → bytes' ≡ bytes + length (line n told) → Sofar m records n bytes' c' s'
+sofar_more m records i n act r told c s c' s' bytes bytes' up a x t f e =
+    let h : History = history_until m records i in
     record {
       run = subst (λ (k : History). Tracks m k c' s') (ap (goes m h) a ∙ sym (history_until_more m records i) ∙ ap (history_until m records) (sym up)) (x.run m h f.run);
-      at = e ∙ ap (λ k. k + length (line n told)) f.at ∙ sym (length-append (report_until m records i) (line n told)) ∙ ap length (sym more);
-      report = text_more (report_until m records i) (line n told) before buf buf' at f.at f.report b ∙ ap (λ z. z ++ drop (length z) before) (sym more);
-      within = omega arith;
+      at =
+          e
+          ∙ ap (λ k. k + length (line n told)) f.at
+          ∙ sym (length-append (report_until m records i) (line n told))
+          ∙ ap length (sym (line_more m records i n act r told c s c' s' bytes up a x t f));
     }
 
--- a run of records is reported
-pub reported : (m : Board) (records : List ℕ) (i n : ℕ) (before after : List ℕ) (at : ℕ) (c : Channels) (s : Meaning) → i ≡ n → Sofar m records i before after at c s
-    → Reported m records n before after at c s
-reported m records i n before after at c s e f =
-    subst (λ (k : ℕ). Reported m records k before after at c s) e
-    (record { count = f.at; report = f.report; run = f.run; law = runs_hold m f.run.small (history_until m records i) f.run.run })
+-- a report of n records that fits leaves room for the line that is next
+pub room_more : (m : Board) (records : List ℕ) (i k n : ℕ) (l before buf : List ℕ) (at : ℕ)
+    → i ≤ k → k ≤ n → at ≡ length (report_until m records i) → buf ≡ report_until m records i ++ drop (length (report_until m records i)) before
+    → report_until m records k ≡ report_until m records i ++ l → length (report_until m records n) ≤ length before → at + length l ≤ length buf
+room_more m records i k n l before buf at up few a b more room =
+    let shorter = longer m records i k up in
+    let whole = longer m records k n few in
+    let size = ap length more ∙ length-append (report_until m records i) l in
+    let same : length buf ≡ length before = ap length b ∙ length_in_front (report_until m records i) before (omega arith) in
+    omega arith
 
--- the same over an equal board
-pub reported_over : (m m' : Board) (records : List ℕ) (n : ℕ) (before after : List ℕ) (bytes : ℕ) (c : Channels) (s : Meaning) → m ≡ m' → Reported m records n before after bytes c s
-    → Reported m' records n before after bytes c s
-reported_over m m' records n before after bytes c s e r = subst (λ (k : Board). Reported k records n before after bytes c s) e r
+-- after the last record
+pub ran : (m : Board) (records : List ℕ) (i : ℕ) (bytes : ℕ) (c : Channels) (s : Meaning) → i ≡ length records / 24 → Sofar m records i bytes c s
+    → (bytes ≡ length (script_report m records)) × Ran m records c s
+ran m records i bytes c s e f =
+    let t : Tracks m (script_history m records) c s = subst (λ (k : ℕ). Tracks m (history_until m records k) c s) e f.run in
+    (f.at ∙ ap (λ k. length (report_until m records k)) e, record { run = t; law = runs_hold m t.small (script_history m records) t.run })

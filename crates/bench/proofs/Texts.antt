@@ -1,11 +1,6 @@
 -- Lines one behind the other in a buffer.
-use Rattle.std.proofs.Common.{◌≡◌, ℕ, ◌+◌, ◌-◌, ◌≤◌, true, leb, List, ◌++◌, length, take, drop, Ok, Err, Result, sym, ap, ◌∙◌, append_assoc, arith, length-append, length-drop, drop-drop}
-use borrow.Rule.Slice.PartMut.{put_mid}
-use Rattle.std.proofs.lemmas.List.{append-nil, drop_all}
-use Rattle.std.proofs.lemmas.Bool.{cond-true, le-leb}
+use Rattle.std.proofs.Common.{◌≡◌, ℕ, ◌+◌, ◌≤◌, List, ◌++◌, length, take, drop, Ok, Err, Result, sym, ap, ◌∙◌, append_assoc, arith, length-append, length-drop, drop-drop}
 use Rattle.report.specs.declared.told.ReportFault.{ReportFault}
-use Rattle.report.specs.Lines.{written}
-use Rattle.report.specs.Outcomes.{write_answer}
 use lib.Seq.{take-append_seam, drop-append-add}
 
 -- a text in front of what a buffer held leaves its length

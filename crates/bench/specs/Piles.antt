@@ -1,11 +1,15 @@
 -- The pile over memory, and what it shows.
-use Rattle.std.specs.Prelude.{ℕ, ◌-◌, ◌%◌, List, ◌++◌, length, replicate, slice_index}
+use Rattle.std.specs.Prelude.{◌≡◌, ℕ, ◌-◌, ◌%◌, List, ◌++◌, length, replicate, slice_index}
 use Rattle.slave.specs.Meaning.{Meaning}
+use Rattle.ram.specs.declared.calls.Ram.{Ram}
 use Rattle.ram.specs.Memory.{kind_at}
-use Rattle.ram.specs.Shows.{ram_made}
-use Rattle.splitter.specs.Splits.{make_answer, made_as}
-use Rattle.converter.specs.Shows.{converted_made}
-use Rattle.register.specs.Holds.{slice_made}
+use Rattle.ram.specs.Shows.{ram_made, ram_meaning}
+use Rattle.splitter.specs.declared.making.Splitter.{Splitter}
+use Rattle.splitter.specs.Splits.{make_answer, made_as, splits}
+use Rattle.converter.specs.declared.state.Converter.{Converter}
+use Rattle.converter.specs.Shows.{converted, converted_made}
+use Rattle.register.specs.declared.slice.RegisterSlice.{RegisterSlice}
+use Rattle.register.specs.Holds.{slice_made, slice_of}
 use Rattle.history.specs.Bytes.{Board}
 
 -- a slice over a converter of width 8 over a splitter in runs of 8 over a slave
@@ -23,3 +27,27 @@ memory_board memory = record { bytes = λ a. slice_index memory a % 256; kinds =
 -- n bytes of memory: the image and then zeros
 abbrev pub loaded : List ℕ → ℕ → List ℕ
 loaded image n = image ++ replicate (n - length image) 0
+
+-- what the splitter of a pile shows, by its parts
+abbrev pub splitter_shows : Splitter Ram → Meaning
+splitter_shows p = splits p.number p.channels (ram_meaning p.below)
+
+-- what the converter over it shows
+abbrev pub converter_shows : Converter (Splitter Ram) → Meaning
+converter_shows p = converted p.width p.channels (splitter_shows p.below)
+
+-- what the whole pile shows
+abbrev pub pile_shows : RegisterSlice (Converter (Splitter Ram)) → Meaning
+pile_shows p = slice_of p.live p.held (converter_shows p.below)
+
+-- a pile is the bench's over these bytes: each of its parts is made over the one below, with its own number
+pub record Piled (p : RegisterSlice (Converter (Splitter Ram))) (xs : List ℕ) : Type 0 where
+  -- memory of width 4 that takes 8 beats at most
+  pub memory : ram_meaning p.below.below.below ≡ ram_made xs 4 8
+  -- a splitter in runs of 8
+  pub number : p.below.below.number ≡ 8
+  pub split : splitter_shows p.below.below ≡ made_as (make_answer 8 (ram_made xs 4 8)) (ram_made xs 4 8)
+  -- a converter of width 8
+  pub converted : converter_shows p.below ≡ converted_made (splitter_shows p.below.below) 8
+  -- and a slice
+  pub sliced : pile_shows p ≡ slice_made (converter_shows p.below)

@@ -1,5 +1,5 @@
 -- The report of records, and the run that they make.
-use Rattle.std.specs.Prelude.{◌≡◌, ℕ, zero, suc, List, [], ◌++◌, length, drop, Result}
+use Rattle.std.specs.Prelude.{◌≡◌, ℕ, zero, suc, ◌/◌, List, [], ◌++◌, length, Result}
 use Rattle.slave.specs.Meaning.{Meaning}
 use Rattle.fabric.specs.declared.types.Act.{Act}
 use Rattle.fabric.specs.declared.types.Answer.{Answer}
@@ -32,13 +32,17 @@ pub record EndsRight (c : Channels) (s : Meaning) (n : ℕ) (act : Result Act Sc
   pub outcome : (m : Board) (h : History) → Tracks m h c s → r ≡ ends m h n act
   pub run : (m : Board) (h : History) → Tracks m h c s → Tracks m (goes m h act) c' s'
 
--- what a call leaves that performs the first n records and reports them: the buffer held before and after, the fabric and the slave
-pub record Reported (m : Board) (records : List ℕ) (n : ℕ) (before after : List ℕ) (bytes : ℕ) (c : Channels) (s : Meaning) : Type 0 where
-  -- so many bytes are written
-  pub count : bytes ≡ length (report_until m records n)
-  -- they are the lines of the records, and what stands behind them stays
-  pub report : after ≡ report_until m records n ++ drop (length (report_until m records n)) before
+-- the history of all records
+abbrev pub script_history : Board → List ℕ → History
+script_history m records = history_until m records (length records / 24)
+
+-- the lines of all records
+abbrev pub script_report : Board → List ℕ → List ℕ
+script_report m records = report_until m records (length records / 24)
+
+-- what performing all records leaves of a run that had begun
+pub record Ran (m : Board) (records : List ℕ) (c : Channels) (s : Meaning) : Type 0 where
   -- the fabric and the slave are what the history of the records says
-  pub run : Tracks m (history_until m records n) c s
+  pub run : Tracks m (script_history m records) c s
   -- and the law holds of it
-  pub law : Holds m (history_until m records n)
+  pub law : Holds m (script_history m records)

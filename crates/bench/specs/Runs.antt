@@ -1,5 +1,5 @@
 -- The whole report of a file, and what the bench answers and leaves.
-use Rattle.std.specs.Prelude.{ℕ, ◌*◌, Bool, cond, ◌&&◌, List, ◌++◌, length, drop, Ok, Err, Result, ◌==◌, nat_le}
+use Rattle.std.specs.Prelude.{ℕ, Bool, cond, ◌&&◌, List, ◌++◌, length, drop, Ok, Err, Result, ◌==◌, nat_le}
 use Rattle.history.specs.History.{History}
 use Rattle.history.specs.Bytes.{Board}
 use Rattle.report.specs.Lines.{line}
@@ -26,17 +26,13 @@ header_line = line 0 (told_of (Err Header))
 abbrev pub report_of : List ℕ → List ℕ
 report_of file = cond (opens file) (report_until (file_board file) (records_of file) (header_of file).acts) header_line
 
--- the room that a report is given: 64 bytes for each act, so that no line is too long, or the line of a bad header
-abbrev pub room_of : List ℕ → ℕ
-room_of file = cond (opens file) (64 * (header_of file).acts) (length header_line)
-
--- the memory handed in has 8,192 bytes, and the buffer has room
+-- the memory handed in has 8,192 bytes, and the buffer has room for the whole report
 abbrev pub accepted : List ℕ → ℕ → ℕ → Bool
-accepted file memory room = memory == 8192 && nat_le (room_of file) room
+accepted file memory room = memory == 8192 && nat_le (length (report_of file)) room
 
--- what the bench answers: the count of bytes written; memory of another length is refused first, then a buffer without room
+-- what the bench answers: the count of bytes written; memory of another length is refused first, then a buffer that is shorter than the report
 abbrev pub bench_answer : List ℕ → ℕ → ℕ → Result ℕ BenchFault
-bench_answer file memory room = cond (memory == 8192) (cond (nat_le (room_of file) room) (Ok (length (report_of file))) (Err Short)) (Err Memory)
+bench_answer file memory room = cond (memory == 8192) (cond (nat_le (length (report_of file)) room) (Ok (length (report_of file))) (Err Short)) (Err Memory)
 
 -- the buffer afterwards: the report, and behind it what stood there
 abbrev pub bench_after : List ℕ → ℕ → List ℕ → List ℕ

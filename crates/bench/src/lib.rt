@@ -9,3 +9,57 @@ mod records;
 pub use example::whole_case_stands;
 pub use fault::BenchFault;
 pub use pile::{MEMORY_BYTES, REPORT_BYTES, run};
+
+#[cfg(test)]
+mod tests {
+    use super::*;
+    use fabric::Fabric;
+    use std::test::Fail;
+
+    // a read request of one beat at 0, a grant and two takes, over the image 11 22 33 44
+    const FILE: &[u8] = b"\x04\0\0\0\x04\0\0\0\
+        \x01\0\x05\0\x01\x02\0\0\0\0\0\0\0\0\0\0\0\0\0\0\0\0\0\0\
+        \x03\0\0\0\0\0\0\0\0\0\0\0\0\0\0\0\0\0\0\0\0\0\0\0\
+        \x05\0\0\0\0\0\0\0\0\0\0\0\0\0\0\0\0\0\0\0\0\0\0\0\
+        \x05\0\0\0\0\0\0\0\0\0\0\0\0\0\0\0\0\0\0\0\0\0\0\0\
+        \x11\x22\x33\x44";
+
+    const REPORT: &[u8] = b"1 ACC\n2 GRT 0 05\n3 R 0 05 0000000044332211 OKAY LAST\n4 ERR F 9\n";
+
+    const BAD_HEADER: &[u8] = b"0 ERR B 20\n";
+
+    // Each file with its report: a buffer as long as the report or longer takes it, and a shorter one is refused and left.
+    #[test]
+    fn a_report_is_written_where_it_just_fits(rt: HostRuntime) -> Result<(), Fail> {
+        let heap = rt.alloc();
+        let torn = &FILE[..FILE.len() - 1];
+        for (file, report) in [(FILE, REPORT), (torn, BAD_HEADER), (b"", BAD_HEADER)] {
+            for room in 0..80 {
+                let memory = vec![in heap; 0xeeu8; MEMORY_BYTES]?;
+                let mut out = vec![in heap; b'?'; room]?;
+                let answer = run(file, memory, Fabric::new(heap)?, &mut out);
+                if room < report.len() {
+                    assert_eq!(rt; answer, Err(BenchFault::Short));
+                    assert!(rt; out.iter().all(|byte| *byte == b'?'));
+                } else {
+                    assert_eq!(rt; answer, Ok(report.len()));
+                    let (lines, rest) = out.split_at(report.len());
+                    assert!(rt; lines == report);
+                    assert!(rt; rest.iter().all(|byte| *byte == b'?'));
+                }
+            }
+        }
+        Ok(())
+    }
+
+    #[test]
+    fn memory_of_another_length_is_refused_first(rt: HostRuntime) -> Result<(), Fail> {
+        let heap = rt.alloc();
+        for bytes in [0, 4096, MEMORY_BYTES - 1, 2 * MEMORY_BYTES] {
+            let memory = vec![in heap; 0u8; bytes]?;
+            let answer = run(FILE, memory, Fabric::new(heap)?, &mut []);
+            assert_eq!(rt; answer, Err(BenchFault::Memory));
+        }
+        Ok(())
+    }
+}

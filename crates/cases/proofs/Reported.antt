@@ -4,7 +4,7 @@ use lib.Seq.{take-append_seam}
 use Rattle.std.proofs.lemmas.Bool.{cond-true}
 use Rattle.bench.specs.declared.fault.BenchFault.{BenchFault}
 use Rattle.bench.specs.declared.fault.BenchFault.TheVariants.{Memory, Short}
-use Rattle.bench.specs.Runs.{accepted, bench_answer, bench_after, report_of, room_of}
+use Rattle.bench.specs.Runs.{accepted, bench_answer, bench_after, report_of}
 
 -- a count is answered where both tests are passed
 tests_passed : (a b : Bool) (l n : ℕ) → ◌≡◌ {A = Result ℕ BenchFault} (Ok n) (cond a (cond b (Ok l) (Err Short)) (Err Memory)) → (a && b ≡ true) × (n ≡ l)
@@ -14,7 +14,7 @@ tests_passed false b l n e = let z : ◌≡◌ {A = ℕ} 0 1 = cc in absurd (ome
 
 -- a count is that of the report, and the call was accepted
 pub answered : (f : List ℕ) (M room n : ℕ) → Ok n ≡ bench_answer f M room → (accepted f M room ≡ true) × (n ≡ length (report_of f))
-answered f M room n e = tests_passed (eqb M 8192) (leb (room_of f) room) (length (report_of f)) n e
+answered f M room n e = tests_passed (eqb M 8192) (leb (length (report_of f)) room) (length (report_of f)) n e
 
 -- the report stands in front
 pub in_front : (f : List ℕ) (M : ℕ) (out : List ℕ) → accepted f M (length out) ≡ true → take (length (report_of f)) (bench_after f M out) ≡ report_of f

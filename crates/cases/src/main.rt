@@ -16,7 +16,7 @@ fn same(a: &[u8], b: &[u8]) -> bool
 }
 
 // Whether the bench gives this report of a file; `out` takes the report that it gives.
-fn agrees(file: &[u8], report: &[u8], memory: Vec<u8>, fabric: &mut Fabric, out: &mut [u8]) -> bool
+fn agrees(file: &[u8], report: &[u8], memory: Vec<u8>, fabric: Fabric, out: &mut [u8]) -> bool
     ensures agrees { accepted file.now (vec_len memory) (length out.old) ≡ true → Decides result (report_of file.now ≡ report.now) }
     ensures refused { accepted file.now (vec_len memory) (length out.old) ≡ false → result ≡ false }
     ensures after { out.new ≡ bench_after file.now (vec_len memory) out.old }
@@ -36,11 +36,13 @@ fn main(rt: HostRuntime) -> anyhow::Result<()> {
         let file = fs::read(&rt, format!(in heap; "{name}.script")?)?;
         let report = fs::read(&rt, format!(in heap; "{name}.report")?)?;
         let memory = vec![in heap; 0u8; MEMORY_BYTES]?;
-        let mut fabric = Fabric::new(heap)?;
-        if !agrees(&file, &report, memory, &mut fabric, &mut out) {
-            println!(rt; "differs: {name}")?;
+        let fabric = Fabric::new(heap)?;
+        if !agrees(&file, &report, memory, fabric, &mut out) {
             differing.push(name)?;
         }
+    }
+    for name in &differing {
+        println!(rt; "differs: {name}")?;
     }
     let differ = differing.len();
     let agree = names.lines().count().saturating_sub(differ);

@@ -27,7 +27,8 @@ pub struct Converter<S> {
 impl<S: Slave> Converter<S> {
     // A converter over a slave; a dead one where the check refuses it.
     pub fn new(below: S, width: u8) -> Converter<S>
-        ensures { ⟦<Converter<S> as Slave>⟧.meaning result ≡ converted_made (S.Slave.meaning below) width }
+        ensures shown { ⟦<Converter<S> as Slave>⟧.meaning result ≡ converted_made (S.Slave.meaning below) width }
+        ensures below { result.below ≡ below }
     {
         Converter {
             width: making::check(&below, width).ok(),

@@ -18,14 +18,14 @@ fn main(rt: HostRuntime) -> io::Result<()> {
     let Ok(mut report) = vec![in heap; 0u8; REPORT_BYTES] else {
         return eprintln!(rt; "no memory for the report");
     };
-    let Ok(mut fabric) = Fabric::new(heap) else {
+    let Ok(fabric) = Fabric::new(heap) else {
         return eprintln!(rt; "no memory for the fabric");
     };
     let mut file = Vec::new(heap);
     if rt.stdin().take(FILE_BYTES).read_to_end(&mut file).is_err() {
         return eprintln!(rt; "the script cannot be read");
     }
-    match bench::run(&file, memory, &mut fabric, &mut report) {
+    match bench::run(&file, memory, fabric, &mut report) {
         Ok(written) => rt.stdout().write_all(&report[0..written.min(REPORT_BYTES)]),
         Err(fault) => {
             let number = fault.number();

@@ -17,7 +17,8 @@ pub struct Ram {
 impl Ram {
     // Memory as a slave; a dead one where the check refuses it.
     pub fn new(memory: Vec<u8>, width: u8, most: u16) -> Ram
-        ensures { ram_meaning result ≡ ram_made memory.items width most }
+        ensures shown { ram_meaning result ≡ ram_made memory.items width most }
+        ensures memory { result.memory ≡ memory }
     {
         let port = Port::new(width, most, memory.len()).ok();
         Ram { memory, port }

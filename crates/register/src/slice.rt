@@ -13,7 +13,7 @@ use slave::{Channel, Given, OpenBurst, Place, Slave, SlaveFault};
 // That it answers now is asked by each method that needs it: who holds the slave below may move it, so no invariant keeps it.
 #[derive(Drop)]
 pub struct RegisterSlice<S> {
-    pub(crate) below: S,
+    pub below: S,
     pub(crate) live: bool,
     pub(crate) held: Option<Held>,
 }
@@ -21,7 +21,8 @@ pub struct RegisterSlice<S> {
 impl<S: Slave> RegisterSlice<S> {
     // A slice over a slave; a dead one where the check refuses it.
     pub fn new(below: S) -> RegisterSlice<S>
-        ensures { shows S.meaning result ≡ slice_made (S.meaning below) }
+        ensures shown { shows S.meaning result ≡ slice_made (S.meaning below) }
+        ensures below { result.below ≡ below }
     {
         let live = making::check(&below).is_ok();
         RegisterSlice {

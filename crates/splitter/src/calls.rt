@@ -72,7 +72,8 @@ impl<S: Slave> Splitter<S> {
         requires live { (shows S.meaning self.old).live ≡ true }
         requires free { is_idle (stand_at (shows S.meaning self.old) channel) ≡ true }
         requires lawful { first_refusal (shows S.meaning self.old).width (raw_of burst) ≡ 0 }
-        ensures { shows S.meaning self.new ≡ opened channel (raw_of burst) (shows S.meaning self.old) }
+        ensures after { shows S.meaning self.new ≡ opened channel (raw_of burst) (shows S.meaning self.old) }
+        ensures number { self.new.number ≡ self.old.number }
     {
         // The channel is idle, so the step opens it.
         let _ = self.channels.step(channel, Step::Open(burst));
@@ -84,6 +85,7 @@ impl<S: Slave> Splitter<S> {
         requires { (shows S.meaning self.old).live ≡ true }
         ensures answer { result ≡ give_answer (shows S.meaning self.old) word strobe }
         ensures after { shows S.meaning self.new ≡ give_after (shows S.meaning self.old) word strobe }
+        ensures number { self.new.number ≡ self.old.number }
     {
         let given = self.below.give(word, strobe)?;
         let answer = self.channels.write.step(Step::Beat(run_response(given)));
@@ -96,6 +98,7 @@ impl<S: Slave> Splitter<S> {
         requires { (shows S.meaning self.old).live ≡ true }
         ensures answer { result ≡ take_answer (shows S.meaning self.old) }
         ensures after { shows S.meaning self.new ≡ take_after (shows S.meaning self.old) }
+        ensures number { self.new.number ≡ self.old.number }
     {
         let (word, response, _) = self.below.take()?;
         let given = self.channels.read.step(Step::Beat(Response::Okay))?;

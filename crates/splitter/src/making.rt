@@ -34,7 +34,9 @@ pub fn check<S: Slave>(below: &S, number: u16) -> Result<(), MakeFault>
 impl<S: Slave> Splitter<S> {
     // A splitter over a slave; a dead one where the check refuses it.
     pub fn new(below: S, number: u16) -> Splitter<S>
-        ensures { shows S.meaning result ≡ made_as (make_answer number (S.meaning below)) (S.meaning below) }
+        ensures shown { shows S.meaning result ≡ made_as (make_answer number (S.meaning below)) (S.meaning below) }
+        ensures below { result.below ≡ below }
+        ensures number { result.number ≡ number }
     {
         Splitter {
             below,

@@ -2,8 +2,8 @@ use Rattle.std.proofs.Common.{◌∙◌}
 use Rattle.splitter.specs.ShowsLemmas.{shows_as, opens}
 use Rattle.splitter.proofs.making.Splitter.begin.Goals as goal
 
-pub returns : goal.returns
-returns g c =
+pub returns-clause-after : goal.returns-clause-after
+returns-clause-after g c =
     let r = c.args.self.now in
     let step = c.step.ensures in
     let follow = c.follow.ensures in

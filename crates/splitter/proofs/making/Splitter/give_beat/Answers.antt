@@ -14,7 +14,7 @@ returns-in_err-given g c =
     let p = gave_refused r.number r.channels (g.S.Slave.meaning r.below) c.args.word c.args.strobe (g.met.S.Slave.sound r.below) c.requires
     c.in_err-given.field-0.0 c.in_err-given.ensures.answer in
     let after = c.give.ensures.after in
-    record { answer = cc; after = cc }
+    record { answer = cc; after = cc; number = refl }
 
 pub returns : goal.returns
 returns g c =
@@ -28,4 +28,5 @@ returns g c =
       answer = step.answer ∙ p.0;
       after = shows_as g.S.Slave.meaning c.follow.new.self _ _ _ follow.number follow.channels (follow.below ∙ ap (follow_after r.number Write (told write.place)) c.give.ensures.after)
           ∙ p.1;
+      number = follow.number;
     }

@@ -33,4 +33,5 @@ returns g c =
       answer = ap (λ n. Ok (x.word, x.response, n)) c.beats_left.ensures ∙ p.0;
       after = shows_as g.S.Slave.meaning c.follow.new.self _ _ _ follow.number follow.channels (follow.below ∙ ap (follow_after r.number Read (told read.place)) c.take.ensures.after)
           ∙ p.1;
+      number = follow.number;
     }
