@@ -62,4 +62,30 @@ mod tests {
         }
         Ok(())
     }
+
+    // A script is read whole, and of an input that is none no more than shows it.
+    #[test]
+    fn an_input_is_read_as_far_as_it_may_be_a_script(rt: HostRuntime) -> Result<(), Fail> {
+        let heap = rt.alloc();
+        let mut long = Vec::new(heap);
+        long.extend_from_slice(FILE)?;
+        long.extend_from_slice(FILE)?;
+        let many_acts = b"\x01\x08\0\0\0\0\0\0 and more";
+        let large_image = b"\0\0\0\0\x01\x20\0\0 and more";
+        let torn = &FILE[..FILE.len() - 1];
+        for (input, bytes) in [
+            (b"".as_slice(), 0),
+            (&FILE[..7], 7),
+            (torn, torn.len()),
+            (FILE, FILE.len()),
+            (long.as_slice(), FILE.len() + 1),
+            (many_acts, 8),
+            (large_image, 8),
+        ] {
+            let file = script::read(input, heap)?;
+            assert_eq!(rt; file.len(), bytes);
+            assert!(rt; input.starts_with(&file));
+        }
+        Ok(())
+    }
 }

@@ -4,10 +4,7 @@
 use bench::{MEMORY_BYTES, REPORT_BYTES};
 use fabric::Fabric;
 use std::io;
-use std::io::{Read, Write};
-
-// One byte more than a script can have: a file that long is none, and need not be read on.
-const FILE_BYTES: u64 = script::MOST_BYTES as u64 + 1;
+use std::io::{BufReader, Write};
 
 // All memory is made before anything is run, and the report is whole before anything is printed.
 fn main(rt: HostRuntime) -> io::Result<()> {
@@ -21,10 +18,12 @@ fn main(rt: HostRuntime) -> io::Result<()> {
     let Ok(fabric) = Fabric::new(heap) else {
         return eprintln!(rt; "no memory for the fabric");
     };
-    let mut file = Vec::new(heap);
-    if rt.stdin().take(FILE_BYTES).read_to_end(&mut file).is_err() {
+    let Ok(input) = BufReader::new(heap, rt.stdin()) else {
+        return eprintln!(rt; "no memory for the input");
+    };
+    let Ok(file) = script::read(input, heap) else {
         return eprintln!(rt; "the script cannot be read");
-    }
+    };
     match bench::run(&file, memory, fabric, &mut report) {
         Ok(written) => rt.stdout().write_all(&report[0..written.min(REPORT_BYTES)]),
         Err(fault) => {

@@ -1,2 +1,3 @@
 -- Records and acts.
 pub mod Keeping
+pub mod Input

@@ -1,5 +1,5 @@
 -- The parts of a script file: a header of 8 bytes, records of 24 bytes, and the image.
-use Rattle.std.specs.Prelude.{◌≡◌, ℕ, ◌+◌, ◌*◌, ◌/◌, ◌<◌, ◌≤◌, Bool, true, false, cond, ◌&&◌, List, length, take, drop, Some, None, Option, Result, MatchResult, ◌==◌, nat_le, nat_lt}
+use Rattle.std.specs.Prelude.{◌≡◌, ℕ, ◌+◌, ◌*◌, ◌/◌, ◌<◌, ◌≤◌, Bool, true, false, cond, ◌&&◌, ◌||◌, List, length, take, drop, Some, None, Option, Result, MatchResult, ◌==◌, nat_le, nat_lt}
 use Rattle.std.specs.Borrow.{Bor}
 use Rattle.std.specs.Int.{w32, from_le_bytes}
 use Rattle.script.specs.declared.fault.ScriptFault.{ScriptFault}
@@ -14,6 +14,14 @@ header_of file = record { acts = from_le_bytes w32 (take 4 file); image = from_l
 -- a header may stand before so many bytes: at most 2,048 acts, an image of at most 8,192 bytes, and just these bytes
 abbrev pub fits : Header → ℕ → Bool
 fits h n = nat_le h.acts 2048 && (nat_le h.image 8192 && n == 24 * h.acts + h.image)
+
+-- a header may stand before so many bytes or more
+abbrev pub allows : Header → ℕ → Bool
+allows h n = nat_le h.acts 2048 && (nat_le h.image 8192 && nat_le n (24 * h.acts + h.image))
+
+-- a script may begin with these bytes: the header is not whole yet, or it allows what follows
+abbrev pub begins : List ℕ → Bool
+begins file = nat_lt (length file) 8 || allows (header_of file) (length (drop 8 file))
 
 -- the file is a script
 abbrev pub opens : List ℕ → Bool

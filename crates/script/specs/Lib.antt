@@ -4,4 +4,5 @@ pub mod Files
 pub mod Records
 pub mod Codes
 pub mod Acts
+pub mod Reads
 pub mod Laws

@@ -4,10 +4,12 @@
 mod acts;
 mod code;
 mod fault;
+mod reading;
 mod record;
 mod script;
 
 pub use acts::{read_act, write_act};
 pub use fault::ScriptFault;
+pub use reading::read;
 pub use script::Script;
-pub use script::calls::{MOST_ACTS, MOST_BYTES, open};
+pub use script::calls::{MOST_ACTS, open};

@@ -1,6 +1,6 @@
 // A file as a script, and the script's parts.
 ghost use Rattle.std.specs.Prelude.{◌≡◌, ℕ, ◌/◌, length, slice_get};
-ghost use Rattle.script.specs.Files.{Opened, Split, fits as header_fits, record_at};
+ghost use Rattle.script.specs.Files.{Opened, Split, allows as header_allows, fits as header_fits, record_at};
 ghost use Rattle.script.specs.Laws.{FilesParted};
 ghost use Rattle.std.specs.Option.{option_map};
 
@@ -13,12 +13,6 @@ pub const MOST_ACTS: usize = 2048;
 
 // The most bytes of its image.
 const MOST_IMAGE: usize = 8192;
-
-// The bytes of the header: two numbers of four.
-const HEADER: usize = 8;
-
-// The most bytes of a script.
-pub const MOST_BYTES: usize = HEADER + RECORD * MOST_ACTS + MOST_IMAGE;
 
 // The two numbers at the start of a file.
 #[derive(Clone, Copy)]
@@ -35,10 +29,18 @@ impl Header {
         let Header { acts, image } = self;
         acts <= MOST_ACTS && image <= MOST_IMAGE && bytes == RECORD * acts + image
     }
+
+    // The header may stand before so many bytes or more.
+    pub(crate) fn allows(self, bytes: usize) -> bool
+        ensures { result ≡ header_allows self bytes }
+    {
+        let Header { acts, image } = self;
+        acts <= MOST_ACTS && image <= MOST_IMAGE && bytes <= RECORD * acts + image
+    }
 }
 
 // The header, and what follows it; with the law of a script's parts.
-fn split_header(file: &[u8]) -> Result<(Header, &[u8]), ScriptFault>
+pub(crate) fn split_header(file: &[u8]) -> Result<(Header, &[u8]), ScriptFault>
     ensures law { FilesParted }
     ensures answer { Split file.now result }
 {
