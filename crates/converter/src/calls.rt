@@ -1,6 +1,8 @@
 // The converter's calls as a slave.
 ghost use Rattle.converter.specs.Shows.{converted};
 ghost use Rattle.converter.specs.Sound.{convert_sound};
+ghost use Rattle.slave.specs.Acts.{open_answer, open_after, give_answer, give_after, take_answer, take_after};
+ghost use Rattle.std.specs.Prelude.{◌≡◌, false};
 
 use crate::state::Converter;
 use burst::{MOST_BEATS, RawBurst, Width};
@@ -32,7 +34,13 @@ impl<S: Slave> Slave for Converter<S> {
         self.channels.place(channel)
     }
 
-    fn open(&mut self, channel: Channel, burst: RawBurst) -> Result<(), SlaveFault> {
+    // Beside what the interface says, each call keeps the width, and a dead converter changes nothing that it would show again.
+    fn open(&mut self, channel: Channel, burst: RawBurst) -> Result<(), SlaveFault>
+        ensures answer { result ≡ open_answer (converted self.old.width self.old.channels (S.Slave.meaning self.old.below)) channel burst }
+        ensures after { converted self.new.width self.new.channels (S.Slave.meaning self.new.below) ≡ open_after (converted self.old.width self.old.channels (S.Slave.meaning self.old.below)) channel burst }
+        ensures width { self.new.width ≡ self.old.width }
+        ensures dead { (converted self.old.width self.old.channels (S.Slave.meaning self.old.below)).live ≡ false → self.new ≡ self.old }
+    {
         let bus = self.alive().ok_or(SlaveFault::Dead)?;
         if self.channels.place(channel).is_some() {
             return Err(SlaveFault::AlreadyOpen);
@@ -43,7 +51,12 @@ impl<S: Slave> Slave for Converter<S> {
     }
 
     // A stray strobe is refused before anything goes down.
-    fn give(&mut self, word: u64, strobe: u8) -> Result<Given, SlaveFault> {
+    fn give(&mut self, word: u64, strobe: u8) -> Result<Given, SlaveFault>
+        ensures answer { result ≡ give_answer (converted self.old.width self.old.channels (S.Slave.meaning self.old.below)) word strobe }
+        ensures after { converted self.new.width self.new.channels (S.Slave.meaning self.new.below) ≡ give_after (converted self.old.width self.old.channels (S.Slave.meaning self.old.below)) word strobe }
+        ensures width { self.new.width ≡ self.old.width }
+        ensures dead { (converted self.old.width self.old.channels (S.Slave.meaning self.old.below)).live ≡ false → self.new ≡ self.old }
+    {
         let bus = self.alive().ok_or(SlaveFault::Dead)?;
         let open = self.channels.write.place.ok_or(SlaveFault::NotOpen)?;
         if self.strays(open, bus, strobe) {
@@ -52,7 +65,12 @@ impl<S: Slave> Slave for Converter<S> {
         self.give_beat(open, bus, word, strobe)
     }
 
-    fn take(&mut self) -> Result<(u64, Response, u16), SlaveFault> {
+    fn take(&mut self) -> Result<(u64, Response, u16), SlaveFault>
+        ensures answer { result ≡ take_answer (converted self.old.width self.old.channels (S.Slave.meaning self.old.below)) }
+        ensures after { converted self.new.width self.new.channels (S.Slave.meaning self.new.below) ≡ take_after (converted self.old.width self.old.channels (S.Slave.meaning self.old.below)) }
+        ensures width { self.new.width ≡ self.old.width }
+        ensures dead { (converted self.old.width self.old.channels (S.Slave.meaning self.old.below)).live ≡ false → self.new ≡ self.old }
+    {
         let bus = self.alive().ok_or(SlaveFault::Dead)?;
         let open = self.channels.read.place.ok_or(SlaveFault::NotOpen)?;
         Ok(self.take_beat(open, bus))

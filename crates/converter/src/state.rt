@@ -51,7 +51,8 @@ impl<S: Slave> Converter<S> {
         requires alive { answering self.old.width (S.Slave.meaning self.old.below) ≡ Some bus }
         requires free { (state_at channel self.old.channels).place ≡ None }
         requires lawful { first_refusal (width_bytes bus) (raw_of burst) ≡ 0 }
-        ensures { ⟦<Converter<S> as Slave>⟧.meaning self.new ≡ opened channel (raw_of burst) (⟦<Converter<S> as Slave>⟧.meaning self.old) }
+        ensures after { ⟦<Converter<S> as Slave>⟧.meaning self.new ≡ opened channel (raw_of burst) (⟦<Converter<S> as Slave>⟧.meaning self.old) }
+        ensures width { self.new.width ≡ self.old.width }
     {
         let _ = self.channels.step(channel, Step::Open(burst));
     }
@@ -78,6 +79,7 @@ impl<S: Slave> Converter<S> {
         requires kept { stray (width_bytes bus) (address_of (raw_of at.burst) at.taken) (last_of (raw_of at.burst) at.taken) strobe ≡ false }
         ensures answer { result ≡ give_answer (⟦<Converter<S> as Slave>⟧.meaning self.old) word strobe }
         ensures after { ⟦<Converter<S> as Slave>⟧.meaning self.new ≡ give_after (⟦<Converter<S> as Slave>⟧.meaning self.old) word strobe }
+        ensures width { self.new.width ≡ self.old.width }
     {
         let beat = BusBeat::next_of(at, bus);
         let response = pieces::send(&mut self.below, beat, word, strobe);
@@ -90,6 +92,7 @@ impl<S: Slave> Converter<S> {
         requires stands { self.old.channels.read.place ≡ Some at }
         ensures answer { Ok result ≡ take_answer (⟦<Converter<S> as Slave>⟧.meaning self.old) }
         ensures after { ⟦<Converter<S> as Slave>⟧.meaning self.new ≡ take_after (⟦<Converter<S> as Slave>⟧.meaning self.old) }
+        ensures width { self.new.width ≡ self.old.width }
     {
         let beat = BusBeat::next_of(at, bus);
         let (word, response) = pieces::fetch(&mut self.below, beat);

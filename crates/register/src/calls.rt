@@ -1,6 +1,8 @@
 // The register slice's calls as a slave.
 ghost use Rattle.register.specs.Holds.{shows};
 ghost use Rattle.register.specs.Laws.{slice_sound};
+ghost use Rattle.slave.specs.Acts.{open_answer, open_after, give_answer, give_after, take_answer, take_after};
+ghost use Rattle.std.specs.Prelude.{◌≡◌, false};
 
 use crate::slice::RegisterSlice;
 use burst::{MOST_BEATS, RawBurst, Width};
@@ -47,9 +49,13 @@ impl<S: Slave> Slave for RegisterSlice<S> {
         }
     }
 
-    // While a beat is held its burst is open.
+    // While a beat is held its burst is open. Beside what the interface says, a dead slice changes nothing that it would show again.
     #[tactic(auto, using(crate::specs::Laws::open_read))]
-    fn open(&mut self, channel: Channel, burst: RawBurst) -> Result<(), SlaveFault> {
+    fn open(&mut self, channel: Channel, burst: RawBurst) -> Result<(), SlaveFault>
+        ensures answer { result ≡ open_answer (shows S.meaning self.old) channel burst }
+        ensures after { shows S.meaning self.new ≡ open_after (shows S.meaning self.old) channel burst }
+        ensures dead { (shows S.meaning self.old).live ≡ false → self.new ≡ self.old }
+    {
         if !self.alive() {
             return Err(SlaveFault::Dead);
         }
@@ -59,7 +65,11 @@ impl<S: Slave> Slave for RegisterSlice<S> {
         }
     }
 
-    fn give(&mut self, word: u64, strobe: u8) -> Result<Given, SlaveFault> {
+    fn give(&mut self, word: u64, strobe: u8) -> Result<Given, SlaveFault>
+        ensures answer { result ≡ give_answer (shows S.meaning self.old) word strobe }
+        ensures after { shows S.meaning self.new ≡ give_after (shows S.meaning self.old) word strobe }
+        ensures dead { (shows S.meaning self.old).live ≡ false → self.new ≡ self.old }
+    {
         if !self.alive() {
             return Err(SlaveFault::Dead);
         }
@@ -67,7 +77,11 @@ impl<S: Slave> Slave for RegisterSlice<S> {
         self.give_beat(at, word, strobe)
     }
 
-    fn take(&mut self) -> Result<(u64, Response, u16), SlaveFault> {
+    fn take(&mut self) -> Result<(u64, Response, u16), SlaveFault>
+        ensures answer { result ≡ take_answer (shows S.meaning self.old) }
+        ensures after { shows S.meaning self.new ≡ take_after (shows S.meaning self.old) }
+        ensures dead { (shows S.meaning self.old).live ≡ false → self.new ≡ self.old }
+    {
         if !self.alive() {
             return Err(SlaveFault::Dead);
         }

@@ -1,7 +1,8 @@
 // The splitter as a slave: full, with the width, the bytes and the kinds below.
+ghost use Rattle.slave.specs.Acts.{open_answer, open_after, give_answer, give_after, take_answer, take_after};
 ghost use Rattle.slave.specs.Meaning.{stand_at};
 ghost use Rattle.splitter.specs.Splits.{shows, run_below, run_stand};
-ghost use Rattle.std.specs.Prelude.{◌≡◌, true};
+ghost use Rattle.std.specs.Prelude.{◌≡◌, true, false};
 ghost use Rattle.splitter.specs.ShowsLemmas.{shows_sound};
 
 use crate::making::{self, Splitter};
@@ -46,7 +47,13 @@ impl<S: Slave> Slave for Splitter<S> {
         }
     }
 
-    fn open(&mut self, channel: Channel, burst: RawBurst) -> Result<(), SlaveFault> {
+    // Beside what the interface says, each call keeps the number, and a dead splitter changes nothing that it would show again.
+    fn open(&mut self, channel: Channel, burst: RawBurst) -> Result<(), SlaveFault>
+        ensures answer { result ≡ open_answer (shows S.meaning self.old) channel burst }
+        ensures after { shows S.meaning self.new ≡ open_after (shows S.meaning self.old) channel burst }
+        ensures number { self.new.number ≡ self.old.number }
+        ensures dead { (shows S.meaning self.old).live ≡ false → self.new ≡ self.old }
+    {
         if !self.live() {
             return Err(SlaveFault::Dead);
         }
@@ -58,14 +65,24 @@ impl<S: Slave> Slave for Splitter<S> {
         Ok(())
     }
 
-    fn give(&mut self, word: u64, strobe: u8) -> Result<Given, SlaveFault> {
+    fn give(&mut self, word: u64, strobe: u8) -> Result<Given, SlaveFault>
+        ensures answer { result ≡ give_answer (shows S.meaning self.old) word strobe }
+        ensures after { shows S.meaning self.new ≡ give_after (shows S.meaning self.old) word strobe }
+        ensures number { self.new.number ≡ self.old.number }
+        ensures dead { (shows S.meaning self.old).live ≡ false → self.new ≡ self.old }
+    {
         if !self.live() {
             return Err(SlaveFault::Dead);
         }
         self.give_beat(word, strobe)
     }
 
-    fn take(&mut self) -> Result<(u64, Response, u16), SlaveFault> {
+    fn take(&mut self) -> Result<(u64, Response, u16), SlaveFault>
+        ensures answer { result ≡ take_answer (shows S.meaning self.old) }
+        ensures after { shows S.meaning self.new ≡ take_after (shows S.meaning self.old) }
+        ensures number { self.new.number ≡ self.old.number }
+        ensures dead { (shows S.meaning self.old).live ≡ false → self.new ≡ self.old }
+    {
         if !self.live() {
             return Err(SlaveFault::Dead);
         }

@@ -1,4 +1,4 @@
-use Rattle.std.proofs.Common.{ap}
+use Rattle.std.proofs.Common.{refl, ap}
 use Rattle.burst.specs.Beats.{raw_of}
 use Rattle.slave.specs.declared.answer.Channel.TheVariants.{Write}
 use Rattle.slave.specs.Meaning.{told}
@@ -29,4 +29,4 @@ returns g c =
     let s = c.step.ensures in
     let r = given x.width x.channels c.step.new.self m (g.S.Slave.meaning c.send-response.new.slave) c.args.bus y.bus b c.args.at.taken y.cover c.requires.alive lawful c.next_of-beat.ensures.cover c.next_of-beat.ensures.bus
     c.args.word c.args.strobe c.send-response.result c.step.result (ap told c.requires.stands) c.requires.kept e.worst e.after s.answer s.place s.worst s.stays in
-    record { answer = r.0; after = r.1 }
+    record { answer = r.0; after = r.1; width = refl }

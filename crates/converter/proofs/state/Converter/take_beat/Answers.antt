@@ -1,4 +1,4 @@
-use Rattle.std.proofs.Common.{Ok, ap, ◌∙◌}
+use Rattle.std.proofs.Common.{Ok, refl, ap, ◌∙◌}
 use Rattle.burst.specs.Beats.{raw_of}
 use Rattle.slave.specs.declared.answer.Channel.TheVariants.{Read}
 use Rattle.slave.specs.Meaning.{told}
@@ -30,4 +30,4 @@ returns g c =
     let s = c.step.ensures in
     let r = took x.width x.channels c.step.new.self m (g.S.Slave.meaning c.fetch-word.new.slave) c.args.bus y.bus b c.args.at.taken y.cover c.requires.alive lawful c.next_of-beat.ensures.cover c.next_of-beat.ensures.bus
     z.0 z.1 (ap told c.requires.stands) e.word e.worst e.after s.place s.stays in
-    record { answer = ap (λ k. Ok (z.0, z.1, k)) c.left.ensures ∙ r.0; after = r.1 }
+    record { answer = ap (λ k. Ok (z.0, z.1, k)) c.left.ensures ∙ r.0; after = r.1; width = refl }
