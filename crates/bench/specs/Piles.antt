@@ -28,6 +28,10 @@ memory_board memory = record { bytes = λ a. slice_index memory a % 256; kinds =
 abbrev pub loaded : List ℕ → ℕ → List ℕ
 loaded image n = image ++ replicate (n - length image) 0
 
+-- what the pile shows over memory of 8,192 bytes that holds an image
+abbrev pub image_board : List ℕ → Board
+image_board image = memory_board (loaded image 8192)
+
 -- what the splitter of a pile shows, by its parts
 abbrev pub splitter_shows : Splitter Ram → Meaning
 splitter_shows p = splits p.number p.channels (ram_meaning p.below)

@@ -8,11 +8,11 @@ use Rattle.bench.specs.declared.fault.BenchFault.{BenchFault}
 use Rattle.bench.specs.declared.fault.BenchFault.TheVariants.{Memory, Header, Short}
 use Rattle.bench.specs.Outcomes.{told_of}
 use Rattle.bench.specs.Reports.{history_until, report_until}
-use Rattle.bench.specs.Piles.{memory_board, loaded}
+use Rattle.bench.specs.Piles.{image_board}
 
 -- what the pile shows at the creation: the file's image and then zeros, 8,192 bytes
 abbrev pub file_board : List ℕ → Board
-file_board file = memory_board (loaded (image_of file) 8192)
+file_board file = image_board (image_of file)
 
 -- the run of the file's acts, without the bad records
 abbrev pub file_history : List ℕ → History

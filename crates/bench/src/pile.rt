@@ -1,5 +1,5 @@
 // The pile, and a whole run of a script over it.
-ghost use Rattle.bench.specs.Piles.{Piled, loaded, memory_board, pile_shows};
+ghost use Rattle.bench.specs.Piles.{Piled, image_board, loaded, pile_shows};
 ghost use Rattle.bench.specs.Reports.{Ran, script_history, script_report};
 ghost use Rattle.bench.specs.Runs.{bench_after, bench_answer, file_board, file_history, header_line, runs};
 ghost use Rattle.fabric.specs.Channels.{channels_of};
@@ -53,7 +53,7 @@ fn begin(memory: Vec<u8>, image: &[u8], fabric: &mut Fabric) -> Pile
     requires memory { vec_len memory ≡ 8192 }
     requires image { length image.now ≤ 8192 }
     ensures piled { Piled result (loaded image.now 8192) }
-    ensures board { board (pile_shows result) ≡ memory_board (loaded image.now 8192) }
+    ensures board { board (pile_shows result) ≡ image_board image.now }
     ensures run { Tracks (board (pile_shows result)) [] (channels_of fabric.new) (pile_shows result) }
 {
     let ram = Ram::new(with_image(memory, image), 4, 8);
@@ -67,9 +67,9 @@ fn begin(memory: Vec<u8>, image: &[u8], fabric: &mut Fabric) -> Pile
 // How many bytes the report of a script has, by a run that writes nothing; and the memory, for the run that does.
 fn measured(script: Script<'_>, memory: Vec<u8>, fabric: &mut Fabric) -> (usize, Vec<u8>)
     requires { vec_len memory ≡ 8192 }
-    ensures count { result.0 ≡ length (script_report (memory_board (loaded script.entry.image.now 8192)) script.entry.records.now) }
+    ensures count { result.0 ≡ length (script_report (image_board script.entry.image.now) script.entry.records.now) }
     ensures memory { vec_len result.1 ≡ 8192 }
-    ensures fabric { channels_of fabric.new ≡ channels_after (script_history (memory_board (loaded script.entry.image.now 8192)) script.entry.records.now) }
+    ensures fabric { channels_of fabric.new ≡ channels_after (script_history (image_board script.entry.image.now) script.entry.records.now) }
 {
     let mut pile = begin(memory, script.image(), fabric);
     let bytes = measure(script, fabric, &mut pile);
@@ -79,11 +79,11 @@ fn measured(script: Script<'_>, memory: Vec<u8>, fabric: &mut Fabric) -> (usize,
 // Runs a script and writes its report to a buffer that is long enough; answers how many bytes the report has.
 fn reported(script: Script<'_>, memory: Vec<u8>, fabric: &mut Fabric, report: &mut [u8]) -> usize
     requires memory { vec_len memory ≡ 8192 }
-    requires room { length (script_report (memory_board (loaded script.image.now 8192)) script.records.now) ≤ length report.old }
-    ensures count { result ≡ length (script_report (memory_board (loaded script.entry.image.now 8192)) script.entry.records.now) }
-    ensures report { report.new ≡ script_report (memory_board (loaded script.entry.image.now 8192)) script.entry.records.now ++ drop (length (script_report (memory_board (loaded script.entry.image.now 8192)) script.entry.records.now)) report.old }
-    ensures fabric { channels_of fabric.new ≡ channels_after (script_history (memory_board (loaded script.entry.image.now 8192)) script.entry.records.now) }
-    ensures law { Holds (memory_board (loaded script.entry.image.now 8192)) (script_history (memory_board (loaded script.entry.image.now 8192)) script.entry.records.now) }
+    requires room { length (script_report (image_board script.image.now) script.records.now) ≤ length report.old }
+    ensures count { result ≡ length (script_report (image_board script.entry.image.now) script.entry.records.now) }
+    ensures report { report.new ≡ script_report (image_board script.entry.image.now) script.entry.records.now ++ drop (length (script_report (image_board script.entry.image.now) script.entry.records.now)) report.old }
+    ensures fabric { channels_of fabric.new ≡ channels_after (script_history (image_board script.entry.image.now) script.entry.records.now) }
+    ensures law { Holds (image_board script.entry.image.now) (script_history (image_board script.entry.image.now) script.entry.records.now) }
 {
     let mut pile = begin(memory, script.image(), fabric);
     perform(script, fabric, &mut pile, report)

@@ -1,5 +1,5 @@
 -- Each byte that is read stood in front of what is left.
-use Rattle.std.proofs.Common.{◌≡◌, List, ℕ, [], ◌∷◌, IfOk, sym, ap, ◌∙◌, subst}
+use Rattle.std.proofs.Common.{List, ℕ, [], ◌∷◌, IfOk, sym, ap, ◌∙◌, subst}
 use Rattle.std.specs.Io.KnownBytes.{Consumes}
 use Rattle.std.specs.Io.Iter.{bytes_remaining}
 use Rattle.script.specs.Files.{begins}
