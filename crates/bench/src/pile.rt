@@ -8,7 +8,7 @@ ghost use Rattle.history.specs.Law.{Holds};
 ghost use Rattle.history.specs.Tracks.{Tracks, channels_after};
 ghost use Rattle.report.specs.Lines.{written};
 ghost use Rattle.bench.specs.declared.fault.BenchFault.TheVariants.{Short};
-ghost use Rattle.std.specs.Prelude.{◌≡◌, ◌≤◌, true, [], ◌++◌, length, drop, if◌then◌else◌, Ok, Err, vec_len, nat_le};
+ghost use Rattle.std.specs.Prelude.{◌≡◌, ◌≤◌, true, [], ◌++◌, length, drop, if◌then◌else◌, Ok, Err, IfOk, vec_len, nat_le};
 
 use crate::fault::{BenchFault, told_of};
 use crate::records::{measure, perform};
@@ -108,6 +108,7 @@ pub fn run(
 ) -> Result<usize, BenchFault>
     ensures answer { result ≡ bench_answer file.now (vec_len memory) (length report.old) }
     ensures report { report.new ≡ bench_after file.now (vec_len memory) report.old }
+    ensures within { IfOk result (λ bytes. bytes ≤ length report.new) }
     ensures law { runs file.now (vec_len memory) (length report.old) ≡ true → Holds (file_board file.now) (file_history file.now) }
 {
     if memory.len() != MEMORY_BYTES {

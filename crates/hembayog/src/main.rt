@@ -25,7 +25,7 @@ fn main(rt: HostRuntime) -> io::Result<()> {
         return eprintln!(rt; "the script cannot be read");
     };
     match bench::run(&file, memory, fabric, &mut report) {
-        Ok(written) => rt.stdout().write_all(&report[0..written.min(REPORT_BYTES)]),
+        Ok(written) => rt.stdout().write_all(&report[..written]),
         Err(fault) => {
             let number = fault.number();
             eprintln!(rt; "refused {number}")
