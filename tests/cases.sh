@@ -1,5 +1,5 @@
 #!/bin/sh
-# Runs the bench, as rt run built it (target/bin/hembayog starts it), on every script of tests/cases and compares its report, byte for byte, with the one beside it.
+# Runs the bench, as tools/bench built it, on every script of tests/cases and compares its report, byte for byte, with the one beside it.
 # The reports were made by a model that was written from the rules alone.
 cd "$(dirname "$0")/.." || exit 1
 agree=0

@@ -1,6 +1,9 @@
 -- One record more in a run.
-use Rattle.std.proofs.Common.{◌≡◌, ℕ, zero, suc, ◌+◌, ◌/◌, ◌<◌, ◌≤◌, List, [], ◌++◌, length, drop, Result, sym, refl, ap, ◌∙◌, subst, arith, length-append, ⊎_elim}
+use Rattle.std.proofs.Common.{◌≡◌, ℕ, zero, suc, ◌+◌, ◌/◌, ◌<◌, ◌≤◌, get_or, slice_get, List, [], ◌++◌, length, drop, Result, sym, refl, ap, ◌∙◌, subst, arith, length-append, ⊎_elim}
 use Rattle.std.proofs.lemmas.Bool.{cases_lt}
+use Rattle.std.proofs.lemmas.Option.{slice_get-get_or}
+use Rattle.script.specs.Acts.{read_act}
+use Rattle.script.specs.Files.{record_at}
 use Rattle.slave.specs.Meaning.{Meaning}
 use Rattle.fabric.specs.declared.types.Act.{Act}
 use Rattle.fabric.specs.declared.types.Answer.{Answer}
@@ -13,7 +16,7 @@ use Rattle.report.specs.Outcomes.{Told}
 use Rattle.report.specs.Lines.{line}
 use Rattle.script.specs.declared.fault.ScriptFault.{ScriptFault}
 use Rattle.bench.specs.declared.fault.BenchFault.{BenchFault}
-use Rattle.bench.specs.Outcomes.{act_at, ends, goes, told_of}
+use Rattle.bench.specs.Outcomes.{act_at, act_in_record, ends, goes, told_of}
 use Rattle.bench.specs.Reports.{EndsRight, Ran, history_until, report_until, line_at, script_history, script_report}
 use Rattle.bench.proofs.Texts.{length_in_front}
 
@@ -52,6 +55,11 @@ longer m records i (suc n) l =
 pub record Sofar (m : Board) (records : List ℕ) (i : ℕ) (bytes : ℕ) (c : Channels) (s : Meaning) : Type 0 where
   pub run : Tracks m (history_until m records i) c s
   pub at : bytes ≡ length (report_until m records i)
+
+-- the act that was read from an item of the records is that of record i
+pub record_read : (records : List ℕ) (items : List (List ℕ)) (i : ℕ) (act : Result Act ScriptFault)
+    → act ≡ read_act (get_or items i []) → i < length items → ((j : ℕ) → slice_get items j ≡ record_at records j) → act ≡ act_at records i
+record_read records items i act e l each = e ∙ ap act_in_record (sym (slice_get-get_or items i [] l) ∙ each i)
 
 -- before the first record
 pub sofar_none : (m : Board) (records : List ℕ) (c : Channels) (s : Meaning) → Tracks m [] c s → Sofar m records 0 0 c s

@@ -5,11 +5,12 @@ use Rattle.ram.specs.declared.calls.Ram.{Ram}
 use Rattle.ram.specs.Memory.{kind_at}
 use Rattle.ram.specs.Shows.{ram_made, ram_meaning}
 use Rattle.splitter.specs.declared.making.Splitter.{Splitter}
-use Rattle.splitter.specs.Splits.{make_answer, made_as, splits}
+use Rattle.splitter.specs.Splits.{make_answer, made_as, number_of, shows as split_shows}
 use Rattle.converter.specs.declared.state.Converter.{Converter}
-use Rattle.converter.specs.Shows.{converted, converted_made}
+use Rattle.converter.specs.Converters.{converter_shows as converted_shows}
+use Rattle.converter.specs.Shows.{converted_made}
 use Rattle.register.specs.declared.slice.RegisterSlice.{RegisterSlice}
-use Rattle.register.specs.Holds.{slice_made, slice_of}
+use Rattle.register.specs.Holds.{slice_made, shows as slice_shows}
 use Rattle.history.specs.Bytes.{Board}
 
 -- a slice over a converter of width 8 over a splitter in runs of 8 over a slave
@@ -32,24 +33,24 @@ loaded image n = image ++ replicate (n - length image) 0
 abbrev pub image_board : List ℕ → Board
 image_board image = memory_board (loaded image 8192)
 
--- what the splitter of a pile shows, by its parts
+-- what the splitter of a pile shows
 abbrev pub splitter_shows : Splitter Ram → Meaning
-splitter_shows p = splits p.number p.channels (ram_meaning p.below)
+splitter_shows = split_shows ram_meaning
 
 -- what the converter over it shows
 abbrev pub converter_shows : Converter (Splitter Ram) → Meaning
-converter_shows p = converted p.width p.channels (splitter_shows p.below)
+converter_shows = converted_shows splitter_shows
 
 -- what the whole pile shows
 abbrev pub pile_shows : RegisterSlice (Converter (Splitter Ram)) → Meaning
-pile_shows p = slice_of p.live p.held (converter_shows p.below)
+pile_shows = slice_shows converter_shows
 
 -- a pile is the bench's over these bytes: each of its parts is made over the one below, with its own number
 pub record Piled (p : RegisterSlice (Converter (Splitter Ram))) (xs : List ℕ) : Type 0 where
   -- memory of width 4 that takes 8 beats at most
   pub memory : ram_meaning p.below.below.below ≡ ram_made xs 4 8
   -- a splitter in runs of 8
-  pub number : p.below.below.number ≡ 8
+  pub number : number_of p.below.below ≡ 8
   pub split : splitter_shows p.below.below ≡ made_as (make_answer 8 (ram_made xs 4 8)) (ram_made xs 4 8)
   -- a converter of width 8
   pub converted : converter_shows p.below ≡ converted_made (splitter_shows p.below.below) 8

@@ -4,4 +4,5 @@ pub mod Spans
 pub mod Sent
 pub mod Laws
 pub mod Shows
+pub mod Converters
 pub mod Sound

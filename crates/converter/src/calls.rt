@@ -1,5 +1,5 @@
 // The converter's calls as a slave.
-ghost use Rattle.converter.specs.Shows.{converted};
+ghost use Rattle.converter.specs.Converters.{converter_shows, width_of};
 ghost use Rattle.converter.specs.Sound.{convert_sound};
 ghost use Rattle.slave.specs.Acts.{open_answer, open_after, give_answer, give_after, take_answer, take_after};
 ghost use Rattle.std.specs.Prelude.{◌≡◌, false};
@@ -9,7 +9,7 @@ use burst::{MOST_BEATS, RawBurst, Width};
 use slave::{Channel, Given, Place, Response, Slave, SlaveFault};
 
 impl<S: Slave> Slave for Converter<S> {
-    ghost meaning = { λ p. converted p.width p.channels (S.Slave.meaning p.below) };
+    ghost meaning = { converter_shows S.Slave.meaning };
 
     ghost sound = { λ x. convert_sound x.width x.channels (S.Slave.meaning x.below) (S.Slave.sound x.below) x.opens };
 
@@ -36,10 +36,10 @@ impl<S: Slave> Slave for Converter<S> {
 
     // Beside what the interface says, each call keeps the width, and a dead converter changes nothing that it would show again.
     fn open(&mut self, channel: Channel, burst: RawBurst) -> Result<(), SlaveFault>
-        ensures answer { result ≡ open_answer (converted self.old.width self.old.channels (S.Slave.meaning self.old.below)) channel burst }
-        ensures after { converted self.new.width self.new.channels (S.Slave.meaning self.new.below) ≡ open_after (converted self.old.width self.old.channels (S.Slave.meaning self.old.below)) channel burst }
-        ensures width { self.new.width ≡ self.old.width }
-        ensures dead { (converted self.old.width self.old.channels (S.Slave.meaning self.old.below)).live ≡ false → self.new ≡ self.old }
+        ensures answer { result ≡ open_answer (converter_shows S.Slave.meaning self.old) channel burst }
+        ensures after { converter_shows S.Slave.meaning self.new ≡ open_after (converter_shows S.Slave.meaning self.old) channel burst }
+        ensures width { width_of self.new ≡ width_of self.old }
+        ensures dead { (converter_shows S.Slave.meaning self.old).live ≡ false → self.new ≡ self.old }
     {
         let bus = self.alive().ok_or(SlaveFault::Dead)?;
         if self.channels.place(channel).is_some() {
@@ -52,10 +52,10 @@ impl<S: Slave> Slave for Converter<S> {
 
     // A stray strobe is refused before anything goes down.
     fn give(&mut self, word: u64, strobe: u8) -> Result<Given, SlaveFault>
-        ensures answer { result ≡ give_answer (converted self.old.width self.old.channels (S.Slave.meaning self.old.below)) word strobe }
-        ensures after { converted self.new.width self.new.channels (S.Slave.meaning self.new.below) ≡ give_after (converted self.old.width self.old.channels (S.Slave.meaning self.old.below)) word strobe }
-        ensures width { self.new.width ≡ self.old.width }
-        ensures dead { (converted self.old.width self.old.channels (S.Slave.meaning self.old.below)).live ≡ false → self.new ≡ self.old }
+        ensures answer { result ≡ give_answer (converter_shows S.Slave.meaning self.old) word strobe }
+        ensures after { converter_shows S.Slave.meaning self.new ≡ give_after (converter_shows S.Slave.meaning self.old) word strobe }
+        ensures width { width_of self.new ≡ width_of self.old }
+        ensures dead { (converter_shows S.Slave.meaning self.old).live ≡ false → self.new ≡ self.old }
     {
         let bus = self.alive().ok_or(SlaveFault::Dead)?;
         let open = self.channels.write.place.ok_or(SlaveFault::NotOpen)?;
@@ -66,10 +66,10 @@ impl<S: Slave> Slave for Converter<S> {
     }
 
     fn take(&mut self) -> Result<(u64, Response, u16), SlaveFault>
-        ensures answer { result ≡ take_answer (converted self.old.width self.old.channels (S.Slave.meaning self.old.below)) }
-        ensures after { converted self.new.width self.new.channels (S.Slave.meaning self.new.below) ≡ take_after (converted self.old.width self.old.channels (S.Slave.meaning self.old.below)) }
-        ensures width { self.new.width ≡ self.old.width }
-        ensures dead { (converted self.old.width self.old.channels (S.Slave.meaning self.old.below)).live ≡ false → self.new ≡ self.old }
+        ensures answer { result ≡ take_answer (converter_shows S.Slave.meaning self.old) }
+        ensures after { converter_shows S.Slave.meaning self.new ≡ take_after (converter_shows S.Slave.meaning self.old) }
+        ensures width { width_of self.new ≡ width_of self.old }
+        ensures dead { (converter_shows S.Slave.meaning self.old).live ≡ false → self.new ≡ self.old }
     {
         let bus = self.alive().ok_or(SlaveFault::Dead)?;
         let open = self.channels.read.place.ok_or(SlaveFault::NotOpen)?;

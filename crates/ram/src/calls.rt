@@ -1,6 +1,6 @@
 // Memory and its calls as a slave.
 ghost use Rattle.ram.specs.Shows.{ram_meaning, ram_made};
-ghost use Rattle.std.specs.Prelude.{◌≡◌, None};
+ghost use Rattle.std.specs.Prelude.{◌≡◌, false};
 ghost use Rattle.slave.specs.Acts.{open_answer, open_after, give_answer, give_after, take_answer, take_after};
 ghost use Rattle.ram.specs.Beats.{ram_sound};
 
@@ -62,7 +62,7 @@ impl Slave for Ram {
     fn open(&mut self, channel: Channel, burst: RawBurst) -> Result<(), SlaveFault>
         ensures answer { result ≡ open_answer (ram_meaning self.old) channel burst }
         ensures after { ram_meaning self.new ≡ open_after (ram_meaning self.old) channel burst }
-        ensures dead { self.old.port ≡ None → self.new ≡ self.old }
+        ensures dead { (ram_meaning self.old).live ≡ false → self.new ≡ self.old }
     {
         let port = self.port.as_mut().ok_or(SlaveFault::Dead)?;
         port.open(channel, burst)
@@ -71,7 +71,7 @@ impl Slave for Ram {
     fn give(&mut self, word: u64, strobe: u8) -> Result<Given, SlaveFault>
         ensures answer { result ≡ give_answer (ram_meaning self.old) word strobe }
         ensures after { ram_meaning self.new ≡ give_after (ram_meaning self.old) word strobe }
-        ensures dead { self.old.port ≡ None → self.new ≡ self.old }
+        ensures dead { (ram_meaning self.old).live ≡ false → self.new ≡ self.old }
     {
         let port = self.port.as_mut().ok_or(SlaveFault::Dead)?;
         port.give(&mut self.memory, word, strobe)
@@ -80,7 +80,7 @@ impl Slave for Ram {
     fn take(&mut self) -> Result<(u64, Response, u16), SlaveFault>
         ensures answer { result ≡ take_answer (ram_meaning self.old) }
         ensures after { ram_meaning self.new ≡ take_after (ram_meaning self.old) }
-        ensures dead { self.old.port ≡ None → self.new ≡ self.old }
+        ensures dead { (ram_meaning self.old).live ≡ false → self.new ≡ self.old }
     {
         let port = self.port.as_mut().ok_or(SlaveFault::Dead)?;
         port.take(&self.memory)

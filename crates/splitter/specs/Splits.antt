@@ -56,6 +56,10 @@ splits M c m = split_of M (told c.write.place) c.write.worst (told c.read.place)
 abbrev pub shows : {S : Type 0} → (S → Meaning) → Splitter S → Meaning
 shows meaning x = splits x.number x.channels (meaning x.below)
 
+-- the number of a splitter
+abbrev pub number_of : {S : Type 0} → Splitter S → ℕ
+number_of x = x.number
+
 -- whether a splitter in runs of M may be made over a slave
 abbrev pub make_answer : ℕ → Meaning → Result (Unit {0}) MakeFault
 make_answer M m = cond (ready m) (cond (numbered M m) (Ok tt) (Err Measure)) (Err Below)

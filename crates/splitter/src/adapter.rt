@@ -1,7 +1,7 @@
 // The splitter as a slave: full, with the width, the bytes and the kinds below.
 ghost use Rattle.slave.specs.Acts.{open_answer, open_after, give_answer, give_after, take_answer, take_after};
 ghost use Rattle.slave.specs.Meaning.{stand_at};
-ghost use Rattle.splitter.specs.Splits.{shows, run_below, run_stand};
+ghost use Rattle.splitter.specs.Splits.{number_of, shows, run_below, run_stand};
 ghost use Rattle.std.specs.Prelude.{◌≡◌, true, false};
 ghost use Rattle.splitter.specs.ShowsLemmas.{shows_sound};
 
@@ -51,7 +51,7 @@ impl<S: Slave> Slave for Splitter<S> {
     fn open(&mut self, channel: Channel, burst: RawBurst) -> Result<(), SlaveFault>
         ensures answer { result ≡ open_answer (shows S.meaning self.old) channel burst }
         ensures after { shows S.meaning self.new ≡ open_after (shows S.meaning self.old) channel burst }
-        ensures number { self.new.number ≡ self.old.number }
+        ensures number { number_of self.new ≡ number_of self.old }
         ensures dead { (shows S.meaning self.old).live ≡ false → self.new ≡ self.old }
     {
         if !self.live() {
@@ -68,7 +68,7 @@ impl<S: Slave> Slave for Splitter<S> {
     fn give(&mut self, word: u64, strobe: u8) -> Result<Given, SlaveFault>
         ensures answer { result ≡ give_answer (shows S.meaning self.old) word strobe }
         ensures after { shows S.meaning self.new ≡ give_after (shows S.meaning self.old) word strobe }
-        ensures number { self.new.number ≡ self.old.number }
+        ensures number { number_of self.new ≡ number_of self.old }
         ensures dead { (shows S.meaning self.old).live ≡ false → self.new ≡ self.old }
     {
         if !self.live() {
@@ -80,7 +80,7 @@ impl<S: Slave> Slave for Splitter<S> {
     fn take(&mut self) -> Result<(u64, Response, u16), SlaveFault>
         ensures answer { result ≡ take_answer (shows S.meaning self.old) }
         ensures after { shows S.meaning self.new ≡ take_after (shows S.meaning self.old) }
-        ensures number { self.new.number ≡ self.old.number }
+        ensures number { number_of self.new ≡ number_of self.old }
         ensures dead { (shows S.meaning self.old).live ≡ false → self.new ≡ self.old }
     {
         if !self.live() {
@@ -93,7 +93,7 @@ impl<S: Slave> Slave for Splitter<S> {
 impl<S: Slave> Splitter<S> {
     // The run that stands open below on a channel, and which beat of it is next; none while the channel is idle or the splitter dead.
     pub fn run_below(&self, channel: Channel) -> Option<(RawBurst, u16)>
-        ensures answer { result ≡ run_below self.now.number (stand_at (shows S.meaning self.now) channel) }
+        ensures answer { result ≡ run_below (number_of self.now) (stand_at (shows S.meaning self.now) channel) }
         ensures stands { (shows S.meaning self.now).live ≡ true → stand_at (S.meaning self.now.below) channel ≡ run_stand result }
     {
         let open = self.place(channel)?;

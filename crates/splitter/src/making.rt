@@ -1,5 +1,5 @@
 // A splitter and its making.
-ghost use Rattle.splitter.specs.Splits.{shows, numbered, make_answer, made_as};
+ghost use Rattle.splitter.specs.Splits.{number_of, shows, numbered, make_answer, made_as};
 ghost use Rattle.std.specs.Prelude.{◌≡◌};
 
 use slave::{Channels, MakeFault, Slave};
@@ -36,7 +36,7 @@ impl<S: Slave> Splitter<S> {
     pub fn new(below: S, number: u16) -> Splitter<S>
         ensures shown { shows S.meaning result ≡ made_as (make_answer number (S.meaning below)) (S.meaning below) }
         ensures below { result.below ≡ below }
-        ensures number { result.number ≡ number }
+        ensures number { number_of result ≡ number }
     {
         Splitter {
             below,

@@ -1,8 +1,6 @@
 -- Every record goes on with the run, and no line is longer than 64 bytes.
-use Rattle.std.proofs.Common.{◌+◌, [], arith, sym, ap, ◌∙◌}
-use Rattle.std.proofs.lemmas.Option.{slice_get-get_or}
-use Rattle.bench.specs.Outcomes.{act_in_record}
-use Rattle.bench.proofs.Sofar.{sofar_none, sofar_more, ran}
+use Rattle.std.proofs.Common.{◌+◌, arith, ap}
+use Rattle.bench.proofs.Sofar.{record_read, sofar_none, sofar_more, ran}
 use Rattle.bench.proofs.records.measure.Goals as goal
 
 pub loop-i-init : goal.loop-i-init
@@ -10,7 +8,7 @@ loop-i-init g c = (sofar_none _ _ _ _ c.requires, omega arith)
 
 pub loop-i-preserved : goal.loop-i-preserved
 loop-i-preserved g c =
-    let read = c.read_act.ensures.answer ∙ ap act_in_record (sym (slice_get-get_or c.records-record-items.result.now c.loop-i.i [] (omega arith)) ∙ c.records-record-items.ensures.each c.loop-i.i) in
+    let read = record_read _ _ c.loop-i.i _ c.read_act.ensures.answer (omega arith) c.records-record-items.ensures.each in
     let long = c.line_length-bytes.ensures.most in
     let before = c.loop-i.invariant.1 in
     (sofar_more _ _ c.loop-i.i _ _ _ _ _ _ _ _ _ _ (omega arith) read c.perform_act-outcome.ensures.run c.told_of.ensures c.loop-i.invariant.0 (ap (λ k. c.loop-i.bytes + k) c.line_length-bytes.ensures.value), omega arith)

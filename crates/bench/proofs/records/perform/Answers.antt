@@ -1,10 +1,8 @@
 -- Every record goes on with the run, and its line is written behind the others.
 use Rattle.std.proofs.Common.{◌≡◌, ℕ, ◌/◌, ◌++◌, List, [], length, drop, arith, sym, ap, ◌∙◌}
-use Rattle.std.proofs.lemmas.Option.{slice_get-get_or}
-use Rattle.bench.specs.Outcomes.{act_in_record}
 use Rattle.bench.specs.Reports.{report_until}
 use Rattle.history.specs.Bytes.{board}
-use Rattle.bench.proofs.Sofar.{until_none, sofar_none, sofar_more, line_more, room_more, ran}
+use Rattle.bench.proofs.Sofar.{record_read, until_none, sofar_none, sofar_more, line_more, room_more, ran}
 use Rattle.bench.proofs.Texts.{text_more}
 use Rattle.bench.proofs.records.perform.Goals as goal
 
@@ -17,13 +15,13 @@ pub tell-at-requires : goal.tell-at-requires
 tell-at-requires g c =
     let last = c.loop-i-test.true in
     let count = c.records-record-items.ensures.count in
-    let read = c.read_act.ensures.answer ∙ ap act_in_record (sym (slice_get-get_or c.records-record-items.result.now c.loop-i.i [] (omega arith)) ∙ c.records-record-items.ensures.each c.loop-i.i) in
+    let read = record_read _ _ c.loop-i.i _ c.read_act.ensures.answer (omega arith) c.records-record-items.ensures.each in
     let more = line_more _ _ c.loop-i.i _ _ _ _ _ _ _ _ _ (omega arith) read c.perform_act-outcome.ensures.run c.told_of.ensures c.loop-i.invariant.0 in
     room_more _ _ c.loop-i.i _ _ _ c.args.report.now _ _ (omega arith) (omega arith) c.loop-i.invariant.0.at c.loop-i.invariant.1 more c.requires.room
 
 pub loop-i-preserved : goal.loop-i-preserved
 loop-i-preserved g c =
-    let read = c.read_act.ensures.answer ∙ ap act_in_record (sym (slice_get-get_or c.records-record-items.result.now c.loop-i.i [] (omega arith)) ∙ c.records-record-items.ensures.each c.loop-i.i) in
+    let read = record_read _ _ c.loop-i.i _ c.read_act.ensures.answer (omega arith) c.records-record-items.ensures.each in
     let more = line_more _ _ c.loop-i.i _ _ _ _ _ _ _ _ _ (omega arith) read c.perform_act-outcome.ensures.run c.told_of.ensures c.loop-i.invariant.0 in (
       sofar_more _ _ c.loop-i.i _ _ _ _ _ _ _ _ _ _ (omega arith) read c.perform_act-outcome.ensures.run c.told_of.ensures c.loop-i.invariant.0 c.tell-at.ensures.end,
       text_more _ _ c.args.report.now _ _ _ c.loop-i.invariant.0.at c.loop-i.invariant.1 c.tell-at.ensures.after ∙ ap (λ (z : List ℕ). z ++ drop (length z) c.args.report.now) (sym more),
