@@ -4,8 +4,9 @@ use Rattle.slave.specs.Meaning.{Meaning}
 use Rattle.ram.specs.declared.calls.Ram.{Ram}
 use Rattle.ram.specs.Memory.{kind_at}
 use Rattle.ram.specs.Shows.{ram_made, ram_meaning}
-use Rattle.splitter.specs.declared.making.Splitter.{Splitter}
-use Rattle.splitter.specs.Splits.{make_answer, made_as, number_of, shows as split_shows}
+use Rattle.splitter.specs.declared.adapter.Splitter.{Splitter}
+use Rattle.splitter.specs.Making.{make_answer, made_as}
+use Rattle.splitter.specs.Splits.{number_of, shows as split_shows}
 use Rattle.converter.specs.declared.state.Converter.{Converter}
 use Rattle.converter.specs.Converters.{converter_shows as converted_shows}
 use Rattle.converter.specs.Shows.{converted_made}
@@ -34,19 +35,19 @@ abbrev pub image_board : List ℕ → Board
 image_board image = memory_board (loaded image 8192)
 
 -- what the splitter of a pile shows
-abbrev pub splitter_shows : Splitter Ram → Meaning
+abbrev pub splitter_shows : {a : _} → Splitter Ram a → Meaning
 splitter_shows = split_shows ram_meaning
 
 -- what the converter over it shows
-abbrev pub converter_shows : Converter (Splitter Ram) → Meaning
+abbrev pub converter_shows : {a : _} {b : _} → Converter (Splitter Ram a) b → Meaning
 converter_shows = converted_shows splitter_shows
 
 -- what the whole pile shows
-abbrev pub pile_shows : RegisterSlice (Converter (Splitter Ram)) → Meaning
+abbrev pub pile_shows : {a : _} {b : _} {c : _} → RegisterSlice (Converter (Splitter Ram a) b) c → Meaning
 pile_shows = slice_shows converter_shows
 
 -- a pile is the bench's over these bytes: each of its parts is made over the one below, with its own number
-pub record Piled (p : RegisterSlice (Converter (Splitter Ram))) (xs : List ℕ) : Type 0 where
+pub record Piled {a : _} {b : _} {c : _} (p : RegisterSlice (Converter (Splitter Ram a) b) c) (xs : List ℕ) : Type 0 where
   -- memory of width 4 that takes 8 beats at most
   pub memory : ram_meaning p.below.below.below ≡ ram_made xs 4 8
   -- a splitter in runs of 8

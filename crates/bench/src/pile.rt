@@ -56,10 +56,11 @@ fn begin(memory: Vec<u8>, image: &[u8], fabric: &mut Fabric) -> Pile
     ensures board { board (pile_shows result) ≡ image_board image.now }
     ensures run { Tracks (board (pile_shows result)) [] (channels_of fabric.new) (pile_shows result) }
 {
-    let ram = Ram::new(with_image(memory, image), 4, 8);
-    let splitter = Splitter::new(ram, 8);
-    let converter = Converter::new(splitter, 8);
-    let pile = RegisterSlice::new(converter);
+    // No making is refused: the memory has a length that is one, and what each stands over is ready.
+    let ram = Ram::new(with_image(memory, image), 4, 8).unwrap();
+    let splitter = Splitter::new(ram, 8).unwrap();
+    let converter = Converter::new(splitter, 8).unwrap();
+    let pile = RegisterSlice::new(converter).unwrap();
     history::begin(fabric, &pile).unwrap();
     pile
 }
@@ -73,7 +74,8 @@ fn measured(script: Script<'_>, memory: Vec<u8>, fabric: &mut Fabric) -> (usize,
 {
     let mut pile = begin(memory, script.image(), fabric);
     let bytes = measure(script, fabric, &mut pile);
-    (bytes, pile.below.below.below.into_memory())
+    let ram = pile.into_below().into_below().into_below();
+    (bytes, ram.into_memory())
 }
 
 // Runs a script and writes its report to a buffer that is long enough; answers how many bytes the report has.

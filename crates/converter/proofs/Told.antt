@@ -1,6 +1,5 @@
 -- The converter's calls, over what the walks over the pieces have done.
-use Rattle.std.proofs.Common.{◌<◌, ◌≡◌, ℕ, ◌+◌, ◌*◌, ◌/◌, Bool, true, false, cond, ltb, Some, None, Option, Ok, Result, sym, refl, ◌∙◌, ap, subst, arith}
-use Rattle.std.specs.Option.{ForSome}
+use Rattle.std.proofs.Common.{◌<◌, ◌≡◌, ℕ, ◌+◌, ◌*◌, ◌/◌, true, false, cond, ltb, Some, Ok, Result, sym, refl, ◌∙◌, ap, subst, arith}
 use Rattle.std.proofs.lemmas.Bool.Decides.{nat_tests}
 use Rattle.burst.specs.declared.checked.Burst.{Burst}
 use Rattle.burst.specs.declared.raw.Cover.{Cover}
@@ -20,30 +19,16 @@ use Rattle.slave.specs.declared.answer.Response.TheVariants.{Okay}
 use Rattle.slave.specs.declared.answer.SlaveFault.{SlaveFault}
 use Rattle.slave.specs.declared.answer.Step.TheVariants.{Open, Beat}
 use Rattle.slave.specs.Channels.{state_at, other}
-use Rattle.slave.specs.Making.{ready}
 use Rattle.slave.specs.Meaning.{Meaning, Stand, idle, busy, told, sound_stand, with_write, with_read}
 use Rattle.slave.specs.Lanes.{stray, worse, read_word, shown}
 use Rattle.slave.specs.Acts.{give_answer, give_after, take_answer, take_after, past, left, worst_after, step_answer, step_place, step_worst}
 use Rattle.slave.proofs.Calls.{open_left, open_lawful, give_taken, take_taken}
 use Rattle.slave.proofs.Soundness.{step_sound}
 use Rattle.slave.specs.Channels.{worst_at}
-use Rattle.converter.specs.Shows.{shows, answering, shown_at, converted}
+use Rattle.converter.specs.Shows.{shows, converted}
 use Rattle.converter.specs.Spans.{wrote, wrote_at, read_at, worst_over, word_over, wrote_over}
 use Rattle.slave.proofs.Soundness.{worst_past}
 use Rattle.converter.proofs.Moves.{whole_worst, wrote_all, read_part, read_worst_spans}
-use Rattle.converter.proofs.Walk.{still_ready}
-
--- a converter that answers has a width, and the slave below is ready
-pub answers : (o : Option Width) (m : Meaning) (W : Width) → answering o m ≡ Some W → (o ≡ Some W) × (ready m ≡ true)
-answers o m W h = by (ready m) refl h
-  where
-    by : (t : Bool) → ready m ≡ t → cond t o None ≡ Some W → (o ≡ Some W) × (ready m ≡ true)
-    by true e k = (k, e)
-    by false e k = cc
-
--- and answers still while the slave below is ready
-still_answers : (o : Option Width) (m n : Meaning) (W : Width) → answering o m ≡ Some W → ready n ≡ true → answering o n ≡ Some W
-still_answers o m n W h k = ap (λ t. cond t o None) k ∙ (answers o m W h).0
 
 -- what holds of a channel and of the other holds of both
 pub both_channels : (P : Channel → Type 0) (ch : Channel) → P ch → P (other ch) → (x : Channel) → P x
@@ -53,50 +38,47 @@ both_channels P Read p q Write = q
 both_channels P Read p q Read = p
 
 -- each open burst of a converter is sound for its width
-abbrev pub Opens : Option Width → Channels → Type 0
-Opens o c = (ch : Channel) → ForSome o (λ w. sound_stand (width_bytes w) (told (state_at ch c).place) ≡ true)
+abbrev pub Opens : Width → Channels → Type 0
+Opens W c = (ch : Channel) → sound_stand (width_bytes W) (told (state_at ch c).place) ≡ true
 
 -- so it is after a step of a channel that leaves it at a sound place
-pub step_opens : (o : Option Width) (c d : Channels) (ch : Channel) → Opens o c → ForSome o (λ w. sound_stand (width_bytes w) (told (state_at ch d).place) ≡ true) → state_at (other ch) d ≡ state_at (other ch) c → Opens o d
-step_opens o c d ch h here stays =
-    both_channels (λ x. ForSome o (λ w. sound_stand (width_bytes w) (told (state_at x d).place) ≡ true)) ch here
-    (λ w e. subst (λ s. sound_stand (width_bytes w) (told s.place) ≡ true) (sym stays) (h (other ch) w e))
+pub step_opens : (W : Width) (c d : Channels) (ch : Channel) → Opens W c → sound_stand (width_bytes W) (told (state_at ch d).place) ≡ true → state_at (other ch) d ≡ state_at (other ch) c → Opens W d
+step_opens W c d ch h here stays =
+    both_channels (λ x. sound_stand (width_bytes W) (told (state_at x d).place) ≡ true) ch here
+    (subst (λ s. sound_stand (width_bytes W) (told s.place) ≡ true) (sym stays) (h (other ch)))
 
 -- a burst that is lawful for the width is opened soundly, and an open one stays
 opened_soundly : (w : ℕ) (p : Stand) (b : Burst) → sound_stand w p ≡ true → first_refusal w (raw_of b) ≡ 0 → sound_stand w (step_place p (Open b)) ≡ true
 opened_soundly w idle b h e = grind (arith, nat_tests)
 opened_soundly w (busy a k) b h e = h
 
-pub open_opens : (o : Option Width) (c d : Channels) (m : Meaning) (W : Width) (ch : Channel) (b : Burst) → answering o m ≡ Some W → Opens o c → first_refusal (width_bytes W) (raw_of b) ≡ 0
-    → told (state_at ch d).place ≡ step_place (told (state_at ch c).place) (Open b) → state_at (other ch) d ≡ state_at (other ch) c → Opens o d
-open_opens o c d m W ch b alive opens lawful place stays =
-    step_opens o c d ch opens
-    (λ w e. let h = (answers o m W alive).0 in
-    let same : W ≡ w = cc in
-    subst (λ q. sound_stand (width_bytes w) q ≡ true) (sym place)
-    (opened_soundly (width_bytes w) (told (state_at ch c).place) b (opens ch w e) (subst (λ v. first_refusal (width_bytes v) (raw_of b) ≡ 0) same lawful))) stays
+pub open_opens : (W : Width) (c d : Channels) (ch : Channel) (b : Burst) → Opens W c → first_refusal (width_bytes W) (raw_of b) ≡ 0
+    → told (state_at ch d).place ≡ step_place (told (state_at ch c).place) (Open b) → state_at (other ch) d ≡ state_at (other ch) c → Opens W d
+open_opens W c d ch b opens lawful place stays =
+    step_opens W c d ch opens
+    (subst (λ q. sound_stand (width_bytes W) q ≡ true) (sym place) (opened_soundly (width_bytes W) (told (state_at ch c).place) b (opens ch) lawful)) stays
 
--- an open burst x of a channel of a converter that answers with the width W, over the slave m
-module _ (o : Option Width) (c : Channels) (m : Meaning) (W : Width) (ch : Channel) (x : OpenBurst) (alive : answering o m ≡ Some W) (opens : Opens o c) (at : (state_at ch c).place ≡ Some x) where
+-- an open burst x of a channel of a converter with the width W
+module _ (W : Width) (c : Channels) (ch : Channel) (x : OpenBurst) (opens : Opens W c) (at : (state_at ch c).place ≡ Some x) where
   stands_at : told (state_at ch c).place ≡ busy (raw_of x.burst) x.taken
   stands_at = ap told at
 
   -- it is lawful for the width
   pub open_lawful_for : first_refusal (width_bytes W) (raw_of x.burst) ≡ 0
-  open_lawful_for = open_lawful (width_bytes W) (told (state_at ch c).place) (raw_of x.burst) x.taken (opens ch W (answers o m W alive).0) stands_at
+  open_lawful_for = open_lawful (width_bytes W) (told (state_at ch c).place) (raw_of x.burst) x.taken (opens ch) stands_at
 
   -- and a beat of it is left
   pub open_left_for : x.taken < x.burst.count
-  open_left_for = open_left (width_bytes W) (told (state_at ch c).place) (raw_of x.burst) x.taken (opens ch W (answers o m W alive).0) stands_at
+  open_left_for = open_left (width_bytes W) (told (state_at ch c).place) (raw_of x.burst) x.taken (opens ch) stands_at
 
   -- a beat of it leaves the channels sound
-  pub beat_opens : (d : Channels) (r : Response) → told (state_at ch d).place ≡ step_place (told (state_at ch c).place) (Beat r) → state_at (other ch) d ≡ state_at (other ch) c → Opens o d
+  pub beat_opens : (d : Channels) (r : Response) → told (state_at ch d).place ≡ step_place (told (state_at ch c).place) (Beat r) → state_at (other ch) d ≡ state_at (other ch) c → Opens W d
   beat_opens d r place stays =
-      step_opens o c d ch opens
-      (λ w e. step_sound (width_bytes w) (told (state_at ch c).place) (told (state_at ch d).place) (raw_of x.burst) x.taken (opens ch w e) stands_at (place ∙ ap (λ q. step_place q (Beat r)) stands_at)) stays
+      step_opens W c d ch opens
+      (step_sound (width_bytes W) (told (state_at ch c).place) (told (state_at ch d).place) (raw_of x.burst) x.taken (opens ch) stands_at (place ∙ ap (λ q. step_place q (Beat r)) stands_at)) stays
 
 -- beat k of the open burst b, which covers y on the bus V; the slave below is m before it and n after it, and the channels are c and d
-module _ (o : Option Width) (c d : Channels) (m n : Meaning) (W V : Width) (b : RawBurst) (k : ℕ) (y : Cover) (alive : answering o m ≡ Some W) (lawful : first_refusal (width_bytes W) b ≡ 0)
+module _ (c d : Channels) (m n : Meaning) (W V : Width) (b : RawBurst) (k : ℕ) (y : Cover) (lawful : first_refusal (width_bytes W) b ≡ 0)
     (y-is : y ≡ record { first = address_of b k; last = last_of b k }) (V-is : V ≡ W) where
   -- a write beat
   module _ (word s : ℕ) (here : Response) (ans : Result Given SlaveFault) (stands : told c.write.place ≡ busy b k) (kept : stray (width_bytes W) (address_of b k) (last_of b k) s ≡ false)
@@ -107,8 +89,8 @@ module _ (o : Option Width) (c d : Channels) (m n : Meaning) (W V : Width) (b : 
     abbrev M : Meaning
     M = shows (width_bytes W) (busy b k) c.write.worst (told c.read.place) m
 
-    is_M : converted o c m ≡ M
-    is_M = ap (λ z. shown_at z c m) alive ∙ ap (λ z. shows (width_bytes W) z c.write.worst (told c.read.place) m) stands
+    is_M : converted W c m ≡ M
+    is_M = ap (λ z. shows (width_bytes W) z c.write.worst (told c.read.place) m) stands
 
     here-worst : worse c.write.worst here ≡ worst_after M b k s
     here-worst = ap (worse c.write.worst)
@@ -117,14 +99,13 @@ module _ (o : Option Width) (c d : Channels) (m n : Meaning) (W V : Width) (b : 
         ∙ whole_worst M (address_of b k) (last_of b k) s (beat_in_word W b k lawful) kept)
 
     -- its answer, and the converter after it
-    pub given : (ans ≡ give_answer (converted o c m) word s) × (converted o d n ≡ give_after (converted o c m) word s)
+    pub given : (ans ≡ give_answer (converted W c m) word s) × (converted W d n ≡ give_after (converted W c m) word s)
     given =
         let F : ℕ → ℕ = wrote (width_bytes V) m y.first (y.last + 1) word s in (
           ans-is ∙ ap (λ q. step_answer q c.write.worst (Beat here)) stands
               ∙ ap (λ u. Ok (cond (ltb (k + 1) b.count) (More (left b k)) (Done u))) here-worst
               ∙ sym (give_taken M b k word s refl refl kept).0 ∙ ap (λ z. give_answer z word s) (sym is_M),
-          ap (λ z. shown_at z d n) (still_answers o m n W alive (still_ready m n F (answers o m W alive).1 n-is))
-              ∙ ap (λ z. shows (width_bytes W) (told d.write.place) d.write.worst (told d.read.place) z) n-is
+          ap (λ z. shows (width_bytes W) (told d.write.place) d.write.worst (told d.read.place) z) n-is
               ∙ ap (λ z. with_write (told d.write.place) (worst_at (told d.write.place) d.write.worst) F (shows (width_bytes W) (busy b k) c.write.worst (told z.place) m)) stays
               ∙ ap (λ z. with_write z (worst_at z d.write.worst) F M) (place ∙ ap (λ q. step_place q (Beat here)) stands)
               ∙ ap (λ z. with_write (past b k) (worst_at (past b k) z) F M) (worst ∙ ap (λ q. step_worst q c.write.worst (Beat here)) stands)
@@ -144,11 +125,11 @@ module _ (o : Option Width) (c d : Channels) (m n : Meaning) (W V : Width) (b : 
     abbrev N : Meaning
     N = shows (width_bytes W) (told c.write.place) c.write.worst (busy b k) m
 
-    is_N : converted o c m ≡ N
-    is_N = ap (λ z. shown_at z c m) alive ∙ ap (λ z. shows (width_bytes W) (told c.write.place) c.write.worst z m) stands
+    is_N : converted W c m ≡ N
+    is_N = ap (λ z. shows (width_bytes W) (told c.write.place) c.write.worst z m) stands
 
     -- its answer, and the converter after it
-    pub took : (Ok (word, r, left b k) ≡ take_answer (converted o c m)) × (converted o d n ≡ take_after (converted o c m))
+    pub took : (Ok (word, r, left b k) ≡ take_answer (converted W c m)) × (converted W d n ≡ take_after (converted W c m))
     took = (
       ap (λ z. Ok (z, r, left b k))
           (word-is ∙ ap (λ v. word_over (shown m) (width_bytes v) y) V-is
@@ -159,7 +140,7 @@ module _ (o : Option Width) (c d : Channels) (m n : Meaning) (W V : Width) (b : 
           ∙ ap (worst_over (read_at m) (width_bytes W)) y-is
           ∙ sym (read_worst_spans (read_at m) (address_of b k / width_bytes W * width_bytes W) (address_of b k) (last_of b k)))
           ∙ sym (take_taken N b k refl refl).0 ∙ ap take_answer (sym is_N),
-      ap (converted o d) n-is ∙ ap (λ z. shown_at z d m) alive
+      ap (converted W d) n-is
           ∙ ap (λ z. shows (width_bytes W) (told z.place) z.worst (told d.read.place) m) stays
           ∙ ap (λ z. with_read z N) (place ∙ ap (λ q. step_place q (Beat r)) stands)
           ∙ sym (take_taken N b k refl refl).1 ∙ ap take_after (sym is_N),

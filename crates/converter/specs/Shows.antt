@@ -1,5 +1,5 @@
 -- What a converter shows, and what it may be made from.
-use Rattle.std.specs.Prelude.{ℕ, true, cond, Some, None, Option, ◌==◌}
+use Rattle.std.specs.Prelude.{ℕ, true, cond, ◌==◌}
 use Rattle.burst.specs.declared.raw.Width.{Width}
 use Rattle.burst.specs.Rules.{width_bytes}
 use Rattle.slave.specs.declared.answer.Response.{Response}
@@ -14,18 +14,9 @@ abbrev pub shows : ℕ → Stand → Response → Stand → Meaning → Meaning
 shows w write worst read m =
     record { live = true; width = w; most = 256; full = true; bytes = m.bytes; kinds = m.kinds; write = write; worst = worst_at write worst; read = read }
 
--- the width of a converter that answers: it has one, since it was made live, and both channels below are idle
-abbrev pub answering : Option Width → Meaning → Option Width
-answering w m = cond (ready m) w None
-
--- a full slave of a width over the bytes of m, with these channels; dead without a width
-abbrev pub shown_at : Option Width → Channels → Meaning → Meaning
-shown_at None c m = dead
-shown_at (Some w) c m = shows (width_bytes w) (told c.write.place) c.write.worst (told c.read.place) m
-
--- what a converter shows: between its calls both channels below are idle
-abbrev pub converted : Option Width → Channels → Meaning → Meaning
-converted w c m = shown_at (answering w m) c m
+-- what a converter shows, by its width and its channels
+abbrev pub converted : Width → Channels → Meaning → Meaning
+converted w c m = shows (width_bytes w) (told c.write.place) c.write.worst (told c.read.place) m
 
 -- the number of the first rule that the slave below and the width break, or 0
 abbrev pub make_refusal : Meaning → ℕ → ℕ

@@ -1,9 +1,9 @@
 // The fabric and its five calls. That each call names its slave, and that nothing here sees an end or an adapter,
 // is a rule of the project.
-ghost use Rattle.std.specs.Prelude.{◌≡◌, ◌<◌, false, IfOk, if◌then◌else◌};
+ghost use Rattle.std.specs.Prelude.{◌≡◌, ◌<◌, false, is_ok, IfOk, if◌then◌else◌};
 ghost use Rattle.fabric.specs.Channels.{channels_of, queue_of, queue_in, with_queue, no_channels};
 ghost use Rattle.std.specs.Borrow.{sem};
-ghost use Rattle.fabric.specs.Lending.{LendsQueue};
+ghost use Rattle.fabric.specs.Lending.{LendsQueue, with_channel};
 ghost use Rattle.fabric.specs.Acts.{request_answer, request_after, grant_answer, grant_after, grant_slave, put_answer, put_after, put_slave, take_answer, take_after, take_slave, create_answer, fits_below};
 ghost use Rattle.fabric.specs.Picking.{ByRule};
 ghost use Rattle.slave.specs.declared.answer.Channel.TheVariants.{Write, Read};
@@ -33,6 +33,7 @@ impl Fabric {
     fn queue(&mut self, channel: Channel) -> &mut ChannelQueue
         ensures* writes_back { sem 𝓛 (LendsQueue self.entry channel result) }
         ensures value { queue_of result.now ≡ queue_in self.old channel }
+        ensures same { with_channel self.old channel result.now ≡ self.old }
     {
         match channel {
             Channel::Write => &mut self.write,
@@ -67,6 +68,7 @@ impl Fabric {
     pub fn request(&mut self, channel: Channel, request: Request) -> Outcome
         ensures answer { result ≡ request_answer (queue_in self.old channel) request }
         ensures after { channels_of self.new ≡ with_queue channel (request_after (queue_in self.old channel) request) (channels_of self.old) }
+        ensures refused { is_ok result ≡ false → self.new ≡ self.old }
     {
         self.queue(channel).request(request)
     }
@@ -76,6 +78,7 @@ impl Fabric {
         ensures answer { result ≡ grant_answer (queue_in self.old channel) (S.Slave.meaning slave.old) channel }
         ensures after { channels_of self.new ≡ with_queue channel (grant_after (queue_in self.old channel) (S.Slave.meaning slave.old) channel) (channels_of self.old) }
         ensures slave { S.Slave.meaning slave.new ≡ grant_slave (queue_in self.old channel) (S.Slave.meaning slave.old) channel }
+        ensures refused { is_ok result ≡ false → (self.new ≡ self.old) × (slave.new ≡ slave.old) }
         ensures rule { ByRule (queue_in self.old channel).rows }
     {
         self.queue(channel).grant(slave, channel)
@@ -93,6 +96,7 @@ impl Fabric {
         ensures answer { result ≡ put_answer (queue_in self.old Write) (S.Slave.meaning slave.old) master word strobe last }
         ensures after { channels_of self.new ≡ with_queue Write (put_after (queue_in self.old Write) (S.Slave.meaning slave.old) master word strobe last) (channels_of self.old) }
         ensures slave { S.Slave.meaning slave.new ≡ put_slave (queue_in self.old Write) (S.Slave.meaning slave.old) master word strobe last }
+        ensures refused { is_ok result ≡ false → (self.new ≡ self.old) × (slave.new ≡ slave.old) }
     {
         let going = self.write.going_for_put(slave, master, last)?;
         let given = slave.give(word, strobe)?;
@@ -113,6 +117,7 @@ impl Fabric {
         ensures answer { result ≡ take_answer (queue_in self.old Read) (S.Slave.meaning slave.old) }
         ensures after { channels_of self.new ≡ with_queue Read (take_after (queue_in self.old Read) (S.Slave.meaning slave.old)) (channels_of self.old) }
         ensures slave { S.Slave.meaning slave.new ≡ take_slave (queue_in self.old Read) (S.Slave.meaning slave.old) }
+        ensures refused { is_ok result ≡ false → (self.new ≡ self.old) × (slave.new ≡ slave.old) }
     {
         let going = self.read.going_for_take(slave)?;
         let (word, response, left) = slave.take()?;

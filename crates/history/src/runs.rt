@@ -43,6 +43,7 @@ pub fn act<S: Slave>(fabric: &mut Fabric, slave: &mut S, act: Act) -> Outcome
     ensures after { channels_of fabric.new ≡ act_after (channels_of fabric.old) (S.Slave.meaning slave.old) act }
     ensures slave { S.Slave.meaning slave.new ≡ act_slave (channels_of fabric.old) (S.Slave.meaning slave.old) act }
     ensures run { Extends (channels_of fabric.old) (S.Slave.meaning slave.old) act result (channels_of fabric.new) (S.Slave.meaning slave.new) }
+    ensures refused { is_ok result ≡ false → (fabric.new ≡ fabric.old) × (slave.new ≡ slave.old) }
 {
     match act {
         Act::Request(channel, request) => fabric.request(channel, request),

@@ -3,6 +3,26 @@
 
 ghost use Rattle.burst.specs.Rules.{kind_code};
 ghost use Rattle.std.specs.Prelude.{◌≡◌};
+ghost use Rattle.converter.specs.Shows.{converted_made};
+ghost use Rattle.ram.specs.Shows.{ram_made};
+ghost use Rattle.register.specs.Holds.{slice_made};
+ghost use Rattle.splitter.specs.Making.{make_answer, made_as};
+
+use converter::Converter;
+use ram::Ram;
+use register::RegisterSlice;
+use slave::{Made, Slave};
+use splitter::Splitter;
+
+// A pile of makings, one over the other.
+pub type Pile = Made<RegisterSlice<Made<Converter<Made<Splitter<Made<Ram>>>>>>>;
+
+// A slice over a converter over a splitter over memory, or what is refused of them.
+pub fn pile(memory: Vec<u8>, width: u8, most: u16, number: u16, bus: u8) -> Pile
+    ensures { ⟦<Pile as Slave>⟧.meaning result ≡ slice_made (converted_made (made_as (make_answer number (ram_made memory.items width most)) (ram_made memory.items width most)) bus) }
+{
+    RegisterSlice::new(Converter::new(Splitter::new(Ram::new(memory, width, most), number), bus))
+}
 
 #[cfg(test)]
 mod tests {
@@ -12,7 +32,7 @@ mod tests {
     use ram::Ram;
     use recorder::Recorder;
     use register::RegisterSlice;
-    use slave::{Channel, Slave};
+    use slave::{Channel, Made, Slave};
     use splitter::Splitter;
     use std::alloc::{AllocError, Global};
     use std::process::Abort;
@@ -79,7 +99,7 @@ mod tests {
         Ok(answers)
     }
 
-    fn memory(heap: Global, width: u8, most: u16) -> Result<Ram, AllocError> {
+    fn memory(heap: Global, width: u8, most: u16) -> Result<Made<Ram>, AllocError> {
         Ok(Ram::new(vec![in heap; 0x5au8; 4096]?, width, most))
     }
 
@@ -211,14 +231,16 @@ mod tests {
     #[test]
     fn a_beat_goes_down_in_pieces(rt: HostRuntime) -> Result<(), Fail> {
         let heap = rt.alloc();
-        let mut pile = Converter::new(Recorder::new(memory(heap, 4, 8)?), 8);
+        let mut pile = Converter::new(Recorder::new(memory(heap, 4, 8)?), 8).map_err(|_| Fail::new(
+            "the making is refused",
+        ))?;
         let beat = RawBurst::new(BurstKind::Incr, 3, 3, 1);
         let piece = RawBurst::new(BurstKind::Incr, 3, 2, 1);
         assert!(rt; pile.open(Channel::Read, beat).is_ok());
         assert!(rt; pile.take().is_ok());
-        assert!(rt; went_down(&pile.below, 0) == Some(piece));
-        assert!(rt; went_down(&pile.below, 1) == Some(RawBurst { start: 4, ..piece }));
-        assert!(rt; went_down(&pile.below, 2) == None);
+        assert!(rt; went_down(pile.below(), 0) == Some(piece));
+        assert!(rt; went_down(pile.below(), 1) == Some(RawBurst { start: 4, ..piece }));
+        assert!(rt; went_down(pile.below(), 2) == None);
         Ok(())
     }
 }

@@ -1,7 +1,11 @@
 -- What a store of a beat's lanes and a making come to, and that memory is a sound slave.
-use Rattle.std.specs.Prelude.{◌≡◌, ℕ, ◌*◌, ◌/◌, ◌%◌, ◌≤◌, true, false, cond, List, length, Some, None, Option, Result, Ok, Err, vec_items, slice_index, IfOk, refl}
-use Rattle.std.specs.Option.{option_map_or}
-use Rattle.std.specs.Result.{result_ok}
+use Rattle.std.specs.Prelude.{◌≡◌, ℕ, ◌*◌, ◌/◌, ◌%◌, ◌≤◌, true, false, cond, List, length, vec_items, slice_index}
+use Rattle.std.specs.declared.vec.Vec.{Vec}
+use Rattle.std.specs.Vec.{with_items}
+use Rattle.std.proofs.Props.{props}
+use mathlib.Core.HLevel.{is_prop→PathP}
+use Rattle.std.proofs.lemmas.List.{with_items_is}
+use Rattle.std.proofs.Common.{take, drop, ◌++◌}
 use Rattle.std.proofs.Common.{arith, sym, ◌∙◌, ap, ⊎_elim}
 use Rattle.std.proofs.Math.Path.{fun_ext}
 use Rattle.std.proofs.lemmas.Bool.{true≢false, lt-ltb, cases_lt}
@@ -14,17 +18,14 @@ use Rattle.burst.specs.Beats.{first_refusal, address_of, last_of}
 use Rattle.burst.proofs.Facts.{beat_in_word, width_power}
 use Rattle.slave.specs.declared.answer.Response.{Response}
 use Rattle.slave.specs.declared.answer.Response.TheVariants.{Okay}
-use Rattle.slave.specs.declared.making.MakeFault.{MakeFault}
-use Rattle.slave.specs.declared.making.MakeFault.TheVariants.{Measure, Length, Below}
 use Rattle.slave.specs.Channels.{worst_at}
-use Rattle.slave.specs.Meaning.{plain, unmapped, Stand, idle, busy, dead, told, sound_stand, Sound, is_there, with_write}
+use Rattle.slave.specs.Meaning.{plain, unmapped, Stand, idle, busy, told, sound_stand, Sound, is_there, with_write}
 use Rattle.slave.specs.Lanes.{stray, written}
-use Rattle.slave.proofs.Soundness.{dead_sound, quiet_at}
+use Rattle.slave.proofs.Soundness.{quiet_at}
 use Rattle.ram.specs.declared.port.Port.{Port}
 use Rattle.ram.specs.declared.calls.Ram.{Ram}
 use Rattle.ram.specs.Memory.{put_lanes, kind_at}
 use Rattle.ram.specs.Making.{make_refusal}
-use Rattle.slave.specs.Making.{answered}
 use Rattle.ram.specs.Shows.{shows, through, ram_meaning, ram_made}
 use Rattle.ram.specs.Stores.{put_written, length_put, kind_same}
 
@@ -41,13 +42,16 @@ stored_is xs W most b k worst read word s lawful kept p v quiet =
     rw (bytes, kinds, quiet)
 
 -- what is made of memory follows from the answer of the making
-pub made : (xs : List ℕ) (w most : ℕ) (r : Result Port MakeFault) → answered r ≡ make_refusal w most (length xs)
-    → IfOk r (λ p. (ys : List ℕ) → through p ys ≡ shows ys w most idle Okay idle)
-    → option_map_or (λ p. through p xs) (result_ok r) dead ≡ ram_made xs w most
-made xs w most (Ok p) e h = rw (← e) (h xs)
-made xs w most (Err Measure) e h = rw (← e) refl
-made xs w most (Err Length) e h = rw (← e) refl
-made xs w most (Err Below) e h = rw (← e) refl
+pub made_is : (xs : List ℕ) (w most : ℕ) (p : Port) → 0 ≡ make_refusal w most (length xs)
+    → ((ys : List ℕ) → through p ys ≡ shows ys w most idle Okay idle) → through p xs ≡ ram_made xs w most
+made_is xs w most p e h = rw (← e) (h xs)
+
+-- a vector with its own items is itself
+pub with_same : {X Z : Type 0} (v : Vec X Z) (ws : List X) → ws ≡ v.items → with_items v ws ≡ v
+with_same {X = X} {Z = Z} v ws e = ap (with_items v) e ∙ (λ i. record { ptr = v.ptr; len = v.len; cap = v.cap; alloc = v.alloc; items = p i; ok = is_prop→PathP (λ j. (v.len ≡ length (p j)) × (v.len ≤ v.cap)) (λ j. hlevel props) (with_items v v.items).ok v.ok i; small = v.small })
+  where
+    p : take v.len (v.items ++ drop (length v.items) v.items) ≡ v.items
+    p = with_items_is v v.items (sym v.ok.0)
 
 -- memory is a sound slave
 void_at : (xs : List ℕ) (a : ℕ) → is_there (kind_at xs a) ≡ false → slice_index xs a % 256 ≡ 0
@@ -72,9 +76,5 @@ shows_sound xs W most write worst read lo hi h k = record {
   gone = λ e. absurd (true≢false e);
 }
 
-port_sound : (xs : List ℕ) (o : Option Port) → Sound (option_map_or (λ p. through p xs) o dead)
-port_sound xs None = dead_sound
-port_sound xs (Some p) = shows_sound xs p.width p.most (told p.channels.write.place) p.channels.write.worst (told p.channels.read.place) p.some p.few p.writes p.reads
-
 pub ram_sound : (r : Ram) → Sound (ram_meaning r)
-ram_sound r = port_sound (vec_items r.memory) r.port
+ram_sound r = let p = r.port in shows_sound (vec_items r.memory) p.width p.most (told p.channels.write.place) p.channels.write.worst (told p.channels.read.place) p.some p.few p.writes p.reads

@@ -1,6 +1,5 @@
 -- What memory shows as a slave.
 use Rattle.std.specs.Prelude.{ℕ, ◌%◌, true, false, cond, List, length, vec_items, ◌==◌, slice_index}
-use Rattle.std.specs.Option.{option_map_or}
 use Rattle.burst.specs.Rules.{width_bytes}
 use Rattle.slave.specs.declared.answer.Response.{Response}
 use Rattle.slave.specs.declared.answer.Response.TheVariants.{Okay}
@@ -20,9 +19,9 @@ shows xs w most write worst read =
 abbrev pub through : Port → List ℕ → Meaning
 through p xs = shows xs (width_bytes p.width) p.most (told p.channels.write.place) p.channels.write.worst (told p.channels.read.place)
 
--- what memory shows: without a port it is dead
+-- what memory shows
 abbrev pub ram_meaning : Ram → Meaning
-ram_meaning r = option_map_or (λ p. through p (vec_items r.memory)) r.port dead
+ram_meaning r = through r.port (vec_items r.memory)
 
 -- what is made of memory: idle, and dead where the check refuses
 abbrev pub ram_made : List ℕ → ℕ → ℕ → Meaning

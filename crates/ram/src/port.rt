@@ -1,4 +1,4 @@
-// The port of memory: what a live slave has beside its bytes, and how each call goes through it.
+// The port of memory: what a slave has beside its bytes, and how each call goes through it.
 ghost use Rattle.std.specs.Prelude.{◌≡◌, ◌≤◌, true};
 ghost use Rattle.burst.specs.Rules.{width_bytes};
 ghost use Rattle.slave.specs.Meaning.{sound_stand, told};
@@ -7,7 +7,7 @@ use crate::{making, memory};
 use burst::{RawBurst, Width};
 use slave::{Channel, Channels, Given, MakeFault, Response, SlaveFault, Step};
 
-// What live memory is reached by: its width, the most beats of a burst, and both channels.
+// What memory is reached by: its width, the most beats of a burst, and both channels.
 #[derive(Clone, Copy)]
 pub(crate) struct Port {
     pub(crate) width: Width,
@@ -26,7 +26,7 @@ impl Port {
     ghost use Rattle.slave.specs.Acts.{open_answer, open_after, give_answer, give_after, take_answer, take_after};
     ghost use Rattle.slave.specs.Meaning.{idle};
     ghost use Rattle.slave.specs.declared.answer.Response.TheVariants.{Okay};
-    ghost use Rattle.std.specs.Prelude.{IfOk, List, ℕ};
+    ghost use Rattle.std.specs.Prelude.{IfOk, List, ℕ, false, is_ok};
 
     // An idle port to memory of this length, or the first rule that the numbers break.
     pub(crate) fn new(width: u8, most: u16, length: usize) -> Result<Port, MakeFault>
@@ -45,6 +45,7 @@ impl Port {
     pub(crate) fn open(&mut self, channel: Channel, burst: RawBurst) -> Result<(), SlaveFault>
         ensures answer { (xs : List ℕ) → result ≡ open_answer (through self.old xs) channel burst }
         ensures after { (xs : List ℕ) → through self.new xs ≡ open_after (through self.old xs) channel burst }
+        ensures refused { is_ok result ≡ false → self.new ≡ self.old }
     {
         if self.channels.place(channel).is_some() {
             return Err(SlaveFault::AlreadyOpen);
@@ -63,6 +64,7 @@ impl Port {
     ) -> Result<Given, SlaveFault>
         ensures answer { result ≡ give_answer (through self.old memory.old) word strobe }
         ensures after { through self.new memory.new ≡ give_after (through self.old memory.old) word strobe }
+        ensures refused { is_ok result ≡ false → (self.new ≡ self.old) × (memory.new ≡ memory.old) }
     {
         let open = self.channels.write.place.ok_or(SlaveFault::NotOpen)?;
         if open.strays(self.width, strobe) {
@@ -82,6 +84,7 @@ impl Port {
     pub(crate) fn take(&mut self, memory: &[u8]) -> Result<(u64, Response, u16), SlaveFault>
         ensures answer { result ≡ take_answer (through self.old memory.now) }
         ensures after { through self.new memory.now ≡ take_after (through self.old memory.now) }
+        ensures refused { is_ok result ≡ false → self.new ≡ self.old }
     {
         let open = self.channels.read.place.ok_or(SlaveFault::NotOpen)?;
         let cover = open.cover().unwrap();

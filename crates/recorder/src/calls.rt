@@ -2,7 +2,7 @@
 ghost use Rattle.arrayvec.specs.ArrayVec.{array_vec_len};
 ghost use Rattle.recorder.specs.Record.{noted, counted};
 ghost use Rattle.slave.specs.Acts.{open_answer, open_after, on_ok, give_answer, give_after, take_answer, take_after};
-ghost use Rattle.std.specs.Prelude.{◌≡◌};
+ghost use Rattle.std.specs.Prelude.{◌≡◌, false, is_ok};
 
 use crate::record::{Opened, Recorder};
 use burst::{RawBurst, Width};
@@ -52,6 +52,7 @@ impl<S: Slave> Slave for Recorder<S> {
         ensures after { S.Slave.meaning self.new.below ≡ open_after (S.Slave.meaning self.old.below) channel burst }
         ensures record { self.new.record.items ≡ on_ok result self.old.record.items (λ _. noted self.old.record.items (record { channel = channel; burst = burst })) }
         ensures count { array_vec_len self.new.record ≡ on_ok result (array_vec_len self.old.record) (λ _. counted (array_vec_len self.old.record)) }
+        ensures refused { is_ok result ≡ false → self.new ≡ self.old }
     {
         self.below.open(channel, burst)?;
         self.note(Opened { channel, burst });
@@ -62,6 +63,7 @@ impl<S: Slave> Slave for Recorder<S> {
         ensures answer { result ≡ give_answer (S.Slave.meaning self.old.below) word strobe }
         ensures after { S.Slave.meaning self.new.below ≡ give_after (S.Slave.meaning self.old.below) word strobe }
         ensures record { self.new.record ≡ self.old.record }
+        ensures refused { is_ok result ≡ false → self.new ≡ self.old }
     {
         self.below.give(word, strobe)
     }
@@ -70,6 +72,7 @@ impl<S: Slave> Slave for Recorder<S> {
         ensures answer { result ≡ take_answer (S.Slave.meaning self.old.below) }
         ensures after { S.Slave.meaning self.new.below ≡ take_after (S.Slave.meaning self.old.below) }
         ensures record { self.new.record ≡ self.old.record }
+        ensures refused { is_ok result ≡ false → self.new ≡ self.old }
     {
         self.below.take()
     }

@@ -1,44 +1,34 @@
--- What a slice shows: sound, live only where the held beat fits, and untouched by a read below.
-use Rattle.std.specs.Prelude.{◌≡◌, ℕ, Bool, true, false, cond, ◌&&◌, Some, None, Ok, Err, Option, Result, refl}
-use Rattle.std.proofs.Common.{sym, ◌∙◌, ap, ⊎_elim}
-use Rattle.std.proofs.lemmas.Bool.{cond-true, cond_both, true≢false, cases_Bool}
+-- What a slice shows: sound, and untouched by a read below.
+use Rattle.std.specs.Prelude.{◌≡◌, ℕ, ◌+◌, ◌<◌, Bool, true, false, cond, not, ◌&&◌, Some, None, Ok, Err, Option, Result, nat_lt, refl}
+use Rattle.std.proofs.Common.{sym, ◌∙◌, ap, arith, ltb}
+use Rattle.std.proofs.lemmas.Bool.{true≢false, and_parts, lt-ltb, le-ltb}
+use Rattle.std.proofs.lemmas.Bool.Decides.{nat_tests}
+use Rattle.std.proofs.Math.Bool.{Bool-set}
+use mathlib.Core.HLevel.{is_prop→PathP}
+use Rattle.burst.specs.Beats.{address_of, last_of}
 use Rattle.burst.specs.declared.raw.RawBurst.{RawBurst}
 use Rattle.slave.specs.declared.answer.SlaveFault.{SlaveFault}
-use Rattle.slave.specs.declared.answer.Channel.TheVariants.{Read}
-use Rattle.slave.specs.Meaning.{Meaning, Stand, busy, dead, Sound, with_read}
-use Rattle.slave.specs.Acts.{give_after, open_answer, open_after, on_ok}
-use Rattle.slave.proofs.Calls.{give_live, give_width, give_most, give_full, give_read, give_with_read}
-use Rattle.slave.proofs.Soundness.{give_sound, dead_sound}
+use Rattle.slave.specs.declared.answer.SlaveFault.TheVariants.{AlreadyOpen}
+use Rattle.slave.specs.declared.answer.Given.TheVariants.{More, Done}
+use Rattle.slave.specs.declared.answer.Channel.TheVariants.{Read, Write}
+use Rattle.slave.specs.Meaning.{Meaning, Stand, idle, busy, Sound, with_read}
+use Rattle.slave.specs.Lanes.{stray}
+use Rattle.slave.specs.Acts.{give_after, give_answer, worst_after, left, past, open_answer, open_after, on_ok}
+use Rattle.slave.proofs.Calls.{give_live, give_width, give_most, give_full, give_read, give_with_read, give_taken}
+use Rattle.slave.proofs.Soundness.{give_sound}
 use Rattle.register.specs.declared.held.Held.{Held}
-use Rattle.register.specs.Holds.{fits_at, slice_of}
+use Rattle.register.specs.declared.slice.RegisterSlice.{RegisterSlice}
+use Rattle.register.specs.Holds.{behind}
+use Rattle.register.specs.Fits.{fits_at, holds_at}
 
 -- a slice over a sound slave is sound
-pub slice_sound : (l : Bool) (h : Option Held) (m : Meaning) → Sound m → Sound (slice_of l h m)
-slice_sound false h m s = dead_sound
-slice_sound true None m s = s
-slice_sound true (Some h) m s =
-    cond_both (m.live && fits_at m.width m.write h.strobe) (give_after m h.word h.strobe) dead Sound (λ _. give_sound m h.word h.strobe s) (λ _. dead_sound)
-
--- where a slice with a held beat is live, the beat fits below
-pub held_live : (h : Held) (m : Meaning) → (slice_of true (Some h) m).live ≡ true → (m.live && fits_at m.width m.write h.strobe) ≡ true
-held_live h m e =
-    ⊎_elim (λ t. t) (λ f. absurd (true≢false (sym e ∙ ap (λ t. (cond t (give_after m h.word h.strobe) dead).live) f))) (cases_Bool (m.live && fits_at m.width m.write h.strobe))
-
--- where the held beat fits, the slice shows the slave after it
-pub held_is : (h : Held) (m : Meaning) → (m.live && fits_at m.width m.write h.strobe) ≡ true → slice_of true (Some h) m ≡ give_after m h.word h.strobe
-held_is h m t = cond-true (m.live && fits_at m.width m.write h.strobe) (give_after m h.word h.strobe) dead t
+pub slice_sound : (h : Option Held) (m : Meaning) → Sound m → Sound (behind m h)
+slice_sound None m s = s
+slice_sound (Some h) m s = give_sound m h.word h.strobe s
 
 -- opening a read is answered the same after a give
 open_read_answer : (m : Meaning) (w s : ℕ) (b : RawBurst) → open_answer (give_after m w s) Read b ≡ open_answer m Read b
 open_read_answer m w s b = simp (give_live m w s, give_width m w s, give_most m w s, give_full m w s, give_read m w s)
-
--- opening a read keeps everything but the read place
-open_read_keeps : {A : Type 0} (f : Meaning → A) (m : Meaning) (b : RawBurst) → ((p : Stand) → f (with_read p m) ≡ f m) → f (open_after m Read b) ≡ f m
-open_read_keeps f m b h = by (open_answer m Read b)
-  where
-    by : (r : Result (Unit {0}) SlaveFault) → f (on_ok r m (λ _. with_read (busy b 0) m)) ≡ f m
-    by (Ok x) = h (busy b 0)
-    by (Err e) = refl
 
 -- a read may be opened before or after a give
 open_read_after : (m : Meaning) (w s : ℕ) (b : RawBurst) → open_after (give_after m w s) Read b ≡ give_after (open_after m Read b) w s
@@ -50,16 +40,64 @@ open_read_after m w s b =
     by (Err e) = refl
 
 -- a read is opened below, whether a beat is held or not
-pub open_read : (l : Bool) (h : Option Held) (m n : Meaning) (r : Result (Unit {0}) SlaveFault) (b : RawBurst) → (slice_of l h m).live ≡ true
+pub open_read : (h : Option Held) (m n : Meaning) (r : Result (Unit {0}) SlaveFault) (b : RawBurst)
     → r ≡ open_answer m Read b → n ≡ open_after m Read b
-    → (r ≡ open_answer (slice_of l h m) Read b) × (slice_of l h n ≡ open_after (slice_of l h m) Read b)
-open_read false h m n r b live ans aft = absurd (true≢false (sym live))
-open_read true None m n r b live ans aft = (ans, aft)
-open_read true (Some h) m n r b live ans aft =
-    let t = held_live h m live in
-    let is = held_is h m t in
-    let t' : (n.live && fits_at n.width n.write h.strobe) ≡ true =
-    ap (λ x. x.live && fits_at x.width x.write h.strobe) aft ∙ open_read_keeps (λ x. x.live && fits_at x.width x.write h.strobe) m b (λ _. refl) ∙ t in (
-      ans ∙ sym (open_read_answer m h.word h.strobe b) ∙ ap (λ x. open_answer x Read b) (sym is),
-      held_is h n t' ∙ ap (λ x. give_after x h.word h.strobe) aft ∙ sym (open_read_after m h.word h.strobe b) ∙ ap (λ x. open_after x Read b) (sym is),
+    → (r ≡ open_answer (behind m h) Read b) × (behind n h ≡ open_after (behind m h) Read b)
+open_read None m n r b ans aft = (ans, aft)
+open_read (Some h) m n r b ans aft =
+    (ans ∙ sym (open_read_answer m h.word h.strobe b), ap (λ x. give_after x h.word h.strobe) aft ∙ sym (open_read_after m h.word h.strobe b))
+
+-- what a beat that can be held says of the slave below
+pub record Holding (h : Held) (m : Meaning) : Type 0 where
+  pub burst : RawBurst
+  pub beat : ℕ
+  pub live : m.live ≡ true
+  pub at : m.write ≡ busy burst beat
+  pub next : (beat + 1) < burst.count
+  pub kept : stray m.width (address_of burst beat) (last_of burst beat) h.strobe ≡ false
+
+pub holding : (h : Held) (m : Meaning) → holds_at (Some h) m ≡ true → Holding h m
+holding h m e =
+    let p = and_parts m.live (fits_at m.width m.write h.strobe) e in
+    by m.write refl p.0 p.1
+  where
+    by : (q : Stand) → m.write ≡ q → m.live ≡ true → fits_at m.width q h.strobe ≡ true → Holding h m
+    by idle at live fit = absurd (true≢false (sym fit))
+    by (busy b k) at live fit =
+        let p = and_parts (nat_lt (k + 1) b.count) (not (stray m.width (address_of b k) (last_of b k) h.strobe)) fit in
+        record { burst = b; beat = k; live = live; at = at; next = grind (arith, nat_tests); kept = grind (arith, nat_tests) }
+
+-- an open write is opened no second time
+busy_open : (m : Meaning) (c : RawBurst) (k : ℕ) (b : RawBurst) → m.live ≡ true → m.write ≡ busy c k → open_answer m Write b ≡ Err AlreadyOpen
+busy_open m c k b live at = simp (live, at)
+
+-- the burst of a held beat is open, before the beat goes down and after
+pub open_held : (h : Held) (m : Meaning) (b : RawBurst) → holds_at (Some h) m ≡ true
+    → (open_answer m Write b ≡ Err AlreadyOpen) × (open_answer (behind m (Some h)) Write b ≡ Err AlreadyOpen)
+open_held h m b e =
+    let x = holding h m e in
+    let g = (give_taken m x.burst x.beat h.word h.strobe x.live x.at x.kept).1 in
+    let there : past x.burst x.beat ≡ busy x.burst (x.beat + 1) = ap (λ t. cond t (busy x.burst (x.beat + 1)) idle) (lt-ltb (x.beat + 1) x.burst.count x.next) in (
+      busy_open m x.burst x.beat b x.live x.at,
+      busy_open (give_after m h.word h.strobe) x.burst (x.beat + 1) b (give_live m h.word h.strobe ∙ x.live) (ap (λ z. z.write) g ∙ there),
     )
+
+-- slices with the same slave below and the same beat held are the same
+pub slice_same : {S : Type 0} {g : _} (p q : RegisterSlice S g) → p.below ≡ q.below → p.held ≡ q.held → p ≡ q
+slice_same {g = g} p q e h = λ i. record { below = e i; held = h i; placed = is_prop→PathP (λ j. holds_at (h j) (g.meaning (e j)) ≡ true) (λ j. Bool-set (holds_at (h j) (g.meaning (e j))) true) p.placed q.placed i }
+
+-- a slice is live
+pub slice_live : (h : Option Held) (m : Meaning) → holds_at h m ≡ true → (behind m h).live ≡ true
+slice_live None m e = e
+slice_live (Some h) m e = give_live m h.word h.strobe ∙ (holding h m e).live
+
+-- with the width below
+pub slice_width : (h : Option Held) (m : Meaning) → (behind m h).width ≡ m.width
+slice_width None m = refl
+slice_width (Some h) m = give_width m h.word h.strobe
+
+-- the last beat of an open write is taken
+pub last_given : (m : Meaning) (b : RawBurst) (k w s : ℕ) → m.live ≡ true → m.write ≡ busy b k → stray m.width (address_of b k) (last_of b k) s ≡ false → left b k ≡ 0
+    → give_answer m w s ≡ Ok (Done (worst_after m b k s))
+last_given m b k w s live at kept none =
+    (give_taken m b k w s live at kept).0 ∙ ap (λ t. Ok (cond t (More (left b k)) (Done (worst_after m b k s)))) (le-ltb (k + 1) b.count (omega arith))

@@ -1,7 +1,7 @@
 // A write beat that is held back, and the places where one can be.
 ghost use Rattle.std.specs.Prelude.{◌≡◌};
 ghost use Rattle.burst.specs.Rules.{width_bytes};
-ghost use Rattle.register.specs.Holds.{fits_at};
+ghost use Rattle.register.specs.Fits.{fits_at};
 ghost use Rattle.slave.specs.Meaning.{told};
 
 use burst::Width;

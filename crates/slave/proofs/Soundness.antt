@@ -9,25 +9,11 @@ use Rattle.slave.specs.declared.answer.Response.{Response}
 use Rattle.slave.specs.declared.answer.Response.TheVariants.{Okay}
 use Rattle.slave.specs.declared.answer.SlaveFault.{SlaveFault}
 use Rattle.slave.specs.declared.answer.SlaveFault.TheVariants.{Strobe, Dead, NotOpen}
-use Rattle.slave.specs.Meaning.{Meaning, ByteKind, plain, read_only, absent, unmapped, Stand, idle, busy, dead, Sound, sound_stand, is_there, is_idle, with_read}
+use Rattle.slave.specs.Meaning.{Meaning, ByteKind, plain, read_only, absent, unmapped, Stand, idle, busy, Sound, sound_stand, is_there, is_idle, with_read}
 use Rattle.slave.specs.Channels.{worst_at}
 use Rattle.slave.specs.Lanes.{stray, lane_byte, is_plain}
 use Rattle.slave.specs.Acts.{on_ok, then_ok, beat_at, past, give_beat, give_after, gave_after, worst_after}
 use Rattle.slave.proofs.Calls.{give_stray, give_taken}
-
-pub dead_sound : Sound dead
-dead_sound = record {
-  small = λ a. omega arith;
-  void = λ a h. refl;
-  wide = (3, omega arith, refl);
-  some = omega arith;
-  few = omega arith;
-  whole = λ _. refl;
-  write = refl;
-  read = refl;
-  quiet = λ _. refl;
-  gone = λ _. refl;
-}
 
 -- a channel is sound after a beat where it was before
 pub past_sound : (w : ℕ) (b : RawBurst) (k : ℕ) → sound_stand w (busy b k) ≡ true → sound_stand w (past b k) ≡ true

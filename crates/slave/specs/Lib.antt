@@ -3,4 +3,5 @@ pub mod Meaning
 pub mod Lanes
 pub mod Acts
 pub mod Making
+pub mod Made
 pub mod Channels

@@ -2,7 +2,7 @@
 ghost use Rattle.burst.specs.Rules.{width_bytes};
 ghost use Rattle.slave.specs.Acts.{open_answer, open_after, give_answer, give_after, take_answer, take_after};
 ghost use Rattle.slave.specs.Meaning.{Meaning, Sound, stand_at, told};
-ghost use Rattle.std.specs.Prelude.{◌≡◌};
+ghost use Rattle.std.specs.Prelude.{◌≡◌, false, is_ok};
 
 use crate::answer::{Channel, Given, Place, Response, SlaveFault};
 use burst::{RawBurst, Width};
@@ -34,17 +34,20 @@ pub trait Slave {
     // opens a burst on a channel
     fn open(&mut self, channel: Channel, burst: RawBurst) -> Result<(), SlaveFault>
         ensures answer { result ≡ open_answer (meaning self.old) channel burst }
-        ensures after { meaning self.new ≡ open_after (meaning self.old) channel burst };
+        ensures after { meaning self.new ≡ open_after (meaning self.old) channel burst }
+        ensures refused { is_ok result ≡ false → self.new ≡ self.old };
 
     // gives the next write beat: word and strobe are the two that a beat brings, as the interface names them
     fn give(&mut self, word: u64, strobe: u8) -> Result<Given, SlaveFault>
         ensures answer { result ≡ give_answer (meaning self.old) word strobe }
-        ensures after { meaning self.new ≡ give_after (meaning self.old) word strobe };
+        ensures after { meaning self.new ≡ give_after (meaning self.old) word strobe }
+        ensures refused { is_ok result ≡ false → self.new ≡ self.old };
 
     // takes the next read beat: its word, its response and the beats left
     fn take(&mut self) -> Result<(u64, Response, u16), SlaveFault>
         ensures answer { result ≡ take_answer (meaning self.old) }
-        ensures after { meaning self.new ≡ take_after (meaning self.old) };
+        ensures after { meaning self.new ≡ take_after (meaning self.old) }
+        ensures refused { is_ok result ≡ false → self.new ≡ self.old };
 
     ghost sound: { (x : Self) → Sound (meaning x) };
 }

@@ -5,6 +5,7 @@ mod admit;
 mod answer;
 mod interface;
 mod lanes;
+mod made;
 mod making;
 mod numbers;
 mod open;
@@ -16,4 +17,4 @@ pub use answer::{
 };
 pub use interface::Slave;
 pub use lanes::{lane_byte, strays, worst_of};
-pub use making::{MakeFault, check_below, is_ready, width_of};
+pub use making::{Made, MakeFault, check_below, is_ready, width_of};

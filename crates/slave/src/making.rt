@@ -19,6 +19,9 @@ pub enum MakeFault {
     Below = 18,
 }
 
+// What a making answers. It is a slave itself, a dead one where the making was refused, so makings nest.
+pub type Made<T> = Result<T, MakeFault>;
+
 impl MakeFault {
     // The number of the refusal.
     pub fn number(self) -> u8

@@ -28,7 +28,7 @@ impl ChannelState {
         ensures place { told self.new.place ≡ step_place (told self.old.place) step }
         ensures worst { self.new.worst ≡ step_worst (told self.old.place) self.old.worst step }
     {
-        match (self.place, step) {
+        match (&mut self.place, step) {
             (None, Step::Open(burst)) => {
                 self.place = Some(OpenBurst::new(burst));
                 self.worst = Response::Okay;
@@ -38,10 +38,11 @@ impl ChannelState {
             (Some(_), Step::Open(_)) => Err(SlaveFault::AlreadyOpen),
             (Some(open), Step::Beat(response)) => {
                 let worst = self.worst.worse(response);
-                if let Some(next) = open.next() {
-                    self.place = Some(next);
+                let left = open.left();
+                if left > 0 {
+                    open.taken += 1;
                     self.worst = worst;
-                    return Ok(Given::More(open.left()));
+                    return Ok(Given::More(left));
                 }
                 self.place = None;
                 self.worst = Response::Okay;

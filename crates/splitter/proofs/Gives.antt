@@ -1,5 +1,5 @@
 -- What a give answers and leaves.
-use Rattle.std.proofs.Common.{◌≡◌, ℕ, ◌+◌, Bool, true, false, cond, ltb, Option, Some, None, Ok, Err, sym, refl, ap, ◌∙◌, subst, ⊎_elim}
+use Rattle.std.proofs.Common.{◌≡◌, ℕ, ◌+◌, Bool, true, false, cond, ltb, Option, Some, None, Ok, Err, is_ok, sym, refl, ap, ◌∙◌, subst, ⊎_elim}
 use Rattle.std.proofs.lemmas.Bool.{cases_Bool, le-ltb, ltb-false}
 use Rattle.burst.specs.declared.raw.RawBurst.{RawBurst}
 use Rattle.burst.specs.Beats.{first_refusal, address_of, last_of, raw_of}
@@ -20,10 +20,11 @@ use Rattle.slave.proofs.Calls.{idle_is, give_stray, give_taken}
 use Rattle.slave.proofs.Soundness.{gave_sound}
 use Rattle.slave.proofs.Worst.{worse_assoc, worse_left}
 use Rattle.splitter.specs.Runs.{run_of, beat_in}
-use Rattle.splitter.specs.Splits.{fits, worst_of, split_shows, split_of, splits, follow_after, run_response}
+use Rattle.splitter.specs.Fits.{fits, stands}
+use Rattle.splitter.specs.Follows.{worst_of, split_shows, follow_after, run_response}
+use Rattle.splitter.specs.Splits.{splits}
 use Rattle.splitter.specs.Walks.{run_address, run_last, next_none}
 use Rattle.splitter.specs.Places.{Below, below_at, Fitting, fitting, fits_from, lawful_here, placed, Quiet, Followed, goes_on}
-use Rattle.splitter.specs.ShowsLemmas.{split_is, live_fits}
 
 -- a give where no write is open
 give_none : (m : Meaning) (w s : ℕ) → m.live ≡ true → m.write ≡ idle → (give_answer m w s ≡ Err NotOpen) × (give_after m w s ≡ m)
@@ -69,9 +70,6 @@ module _ (M : ℕ) (b : RawBurst) (j : ℕ) (kept : Response) (r : Stand) (m : M
   abbrev last : last_of run i ≡ last_of b j
   last = run_last M b j law8 f.some bel.left
 
-  shown : split_of M (busy b j) kept r m ≡ X
-  shown = split_is M (busy b j) kept r m fit
-
   abbrev out : Bool
   out = stray m.width (address_of b j) (last_of b j) s
 
@@ -79,12 +77,11 @@ module _ (M : ℕ) (b : RawBurst) (j : ℕ) (kept : Response) (r : Stand) (m : M
   same_stray = let h = here in let l = last in cc
 
   -- the strobe is refused below as it would be here
-  give_strays : out ≡ true → (give_answer m w s ≡ give_answer (split_of M (busy b j) kept r m) w s) × (split_of M (busy b j) kept r (give_after m w s) ≡ give_after (split_of M (busy b j) kept r m) w s)
+  give_strays : out ≡ true → give_answer m w s ≡ give_answer X w s
   give_strays t =
       let p = give_stray m run i w s f.live bel.at (same_stray ∙ t) in
       let q = give_stray X b j w s refl refl t in
-      let is = shown in
-      (cc, cc)
+      cc
 
   -- the run goes on
   abbrev on : Bool
@@ -120,8 +117,9 @@ module _ (M : ℕ) (b : RawBurst) (j : ℕ) (kept : Response) (r : Stand) (m : M
     goes = goes_on M Write b j n law8 f.some f.most bel.left f.live quiet_after refl (lawful_here M b j m.width m.write law8 f.write sound.write)
 
     give_takes : (given : Given) → Ok given ≡ give_answer m w s
-        → (step_answer (busy b j) kept (Beat (run_response given)) ≡ give_answer (split_of M (busy b j) kept r m) w s)
-        × (split_of M (past b j) (step_worst (busy b j) kept (Beat (run_response given))) r (follow_after M Write (past b j) (give_after m w s)) ≡ give_after (split_of M (busy b j) kept r m) w s)
+        → (step_answer (busy b j) kept (Beat (run_response given)) ≡ give_answer X w s)
+        × (split_shows (past b j) (step_worst (busy b j) kept (Beat (run_response given))) r (follow_after M Write (past b j) (give_after m w s)) ≡ give_after X w s)
+        × (fits M (past b j) r (follow_after M Write (past b j) (give_after m w s)) ≡ true)
     give_takes given h =
         let below = below_answer in
         let is : given ≡ cond on (More (left run i)) (Done (worse m.worst v)) = cc in
@@ -130,64 +128,71 @@ module _ (M : ℕ) (b : RawBurst) (j : ℕ) (kept : Response) (r : Stand) (m : M
         let over : more ≡ false → on ≡ false = λ e. le-ltb (i + 1) run.count (next_none M b j law8 f.some bel.left (ltb-false (j + 1) b.count e)) in
         let done = done_joined on more (left b j) kept m.worst v over in
         let here = own in
-        let was = shown in
         let worst = worst_joined on more b (j + 1) kept m.worst v in
         let end : Meaning = placed Write goes.stand n in
         let after = below_after in
         let follows = goes.after in
-        let w' : Response = cond more (worse kept (cond on Okay (worse m.worst v))) Okay in
-        let now = split_is M (past b j) w' r end (fits_from M (past b j) r end f.live f.number goes.on f.read) in
-        (cc, cc)
+        let on_end = fits_from M (past b j) r end f.live f.number goes.on f.read in
+        (cc, cc, cc)
 
 -- a give at any place
-module _ (M : ℕ) (c : Channels) (m : Meaning) (w s : ℕ) (sound : Sound m) (live : (splits M c m).live ≡ true) where
+module _ (M : ℕ) (c : Channels) (m : Meaning) (w s : ℕ) (sound : Sound m) (fit : stands M c m ≡ true) where
   abbrev kept : Response
   kept = c.write.worst
 
   abbrev r : Stand
   r = told c.read.place
 
-  fit_gave : fits M (told c.write.place) r m ≡ true
-  fit_gave = live_fits M (told c.write.place) kept r m live
-
-  pub gave_refused : (e : SlaveFault) → Err e ≡ give_answer m w s → (Err e ≡ give_answer (splits M c m) w s) × (splits M c (give_after m w s) ≡ give_after (splits M c m) w s)
-  gave_refused e h = by c.write.place fit_gave
+  -- what is refused below would be here
+  pub gave_refused : (e : SlaveFault) → Err e ≡ give_answer m w s → Err e ≡ give_answer (splits c m) w s
+  gave_refused e h = by c.write.place fit
     where
-      by : (p : Option OpenBurst) → fits M (told p) r m ≡ true
-          → (Err e ≡ give_answer (split_of M (told p) kept r m) w s) × (split_of M (told p) kept r (give_after m w s) ≡ give_after (split_of M (told p) kept r m) w s)
+      by : (p : Option OpenBurst) → fits M (told p) r m ≡ true → Err e ≡ give_answer (split_shows (told p) kept r m) w s
       by None g =
           let f = fitting M idle r m g in
           let a = give_none m w s f.live (idle_is m.write f.write) in
-          let is = split_is M idle kept r m g in
           let o = give_none (split_shows idle kept r m) w s refl refl in
-          (cc, cc)
+          cc
       by (Some o) g =
           ⊎_elim
-          (λ t. let q = give_strays M (raw_of o.burst) o.taken kept r m w s sound o.burst.lawful g t in (h ∙ q.0, q.1))
+          (λ t. h ∙ give_strays M (raw_of o.burst) o.taken kept r m w s sound o.burst.lawful g t)
           (λ t. let e = h ∙ below_answer M (raw_of o.burst) o.taken kept r m w s sound o.burst.lawful g t in cc)
           (cases_Bool (stray m.width (address_of (raw_of o.burst) o.taken) (last_of (raw_of o.burst) o.taken) s))
 
   gave_takes : (given : Given) → Ok given ≡ give_answer m w s → (p : Option OpenBurst) → fits M (told p) r m ≡ true
-      → (step_answer (told p) kept (Beat (run_response given)) ≡ give_answer (split_of M (told p) kept r m) w s)
-      × (split_of M (step_place (told p) (Beat (run_response given))) (step_worst (told p) kept (Beat (run_response given))) r (follow_after M Write (step_place (told p) (Beat (run_response given))) (give_after m w s))
-      ≡ give_after (split_of M (told p) kept r m) w s)
+      → (step_answer (told p) kept (Beat (run_response given)) ≡ give_answer (split_shows (told p) kept r m) w s)
+      × (split_shows (step_place (told p) (Beat (run_response given))) (step_worst (told p) kept (Beat (run_response given))) r (follow_after M Write (step_place (told p) (Beat (run_response given))) (give_after m w s))
+      ≡ give_after (split_shows (told p) kept r m) w s)
+      × (fits M (step_place (told p) (Beat (run_response given))) r (follow_after M Write (step_place (told p) (Beat (run_response given))) (give_after m w s)) ≡ true)
   gave_takes given h None g =
       let f = fitting M idle r m g in
       let e = h ∙ (give_none m w s f.live (idle_is m.write f.write)).0 in
       cc
   gave_takes given h (Some o) g =
       ⊎_elim
-      (λ t. let e = h ∙ (give_strays M (raw_of o.burst) o.taken kept r m w s sound o.burst.lawful g t).0 ∙ ap (λ x. give_answer x w s) (split_is M (busy (raw_of o.burst) o.taken) kept r m g)
+      (λ t. let e = h ∙ give_strays M (raw_of o.burst) o.taken kept r m w s sound o.burst.lawful g t
       ∙ (give_stray (split_shows (busy (raw_of o.burst) o.taken) kept r m) (raw_of o.burst) o.taken w s refl refl t).0 in
       cc)
       (λ t. give_takes M (raw_of o.burst) o.taken kept r m w s sound o.burst.lawful g t given h)
       (cases_Bool (stray m.width (address_of (raw_of o.burst) o.taken) (last_of (raw_of o.burst) o.taken) s))
 
+  -- what is taken below is taken here
+  pub gave_open : (given : Given) → Ok given ≡ give_answer m w s → (x : Response) → is_ok (step_answer (told c.write.place) kept (Beat x)) ≡ true
+  gave_open given h x = by c.write.place fit
+    where
+      by : (p : Option OpenBurst) → fits M (told p) r m ≡ true → is_ok (step_answer (told p) kept (Beat x)) ≡ true
+      by None g =
+          let f = fitting M idle r m g in
+          let e = h ∙ (give_none m w s f.live (idle_is m.write f.write)).0 in
+          cc
+      by (Some o) g = refl
+
   -- the record d after the step, and the slave below after it followed
   pub gave : (given : Given) → Ok given ≡ give_answer m w s → (x : Response) → x ≡ run_response given → (d : Channels) → told d.write.place ≡ step_place (told c.write.place) (Beat x)
       → d.write.worst ≡ step_worst (told c.write.place) kept (Beat x) → told d.read.place ≡ r
-      → (step_answer (told c.write.place) kept (Beat x) ≡ give_answer (splits M c m) w s)
-      × (splits M d (follow_after M Write (told d.write.place) (give_after m w s)) ≡ give_after (splits M c m) w s)
+      → (step_answer (told c.write.place) kept (Beat x) ≡ give_answer (splits c m) w s)
+      × (splits d (follow_after M Write (told d.write.place) (give_after m w s)) ≡ give_after (splits c m) w s)
+      × (stands M d (follow_after M Write (told d.write.place) (give_after m w s)) ≡ true)
   gave given h x is d place worst same =
-      let p = gave_takes given h c.write.place fit_gave in
-      (cc, cc)
+      let p = gave_takes given h c.write.place fit in
+      (cc, cc, cc)

@@ -13,7 +13,8 @@ use Rattle.slave.specs.Meaning.{Meaning, Stand, idle, busy, with_read, with_writ
 use Rattle.slave.specs.Acts.{opened, past}
 use Rattle.slave.proofs.Calls.{at_is, is_at_self, open_lawful}
 use Rattle.splitter.specs.Runs.{run_of, beat_in, run_answer}
-use Rattle.splitter.specs.Splits.{on_place, numbered, fits, follow_after}
+use Rattle.splitter.specs.Fits.{on_place, numbered, fits}
+use Rattle.splitter.specs.Follows.{follow_after}
 use Rattle.splitter.specs.Walks.{next_left, next_run, next_beat, next_new}
 use Rattle.splitter.specs.Joined.{run_stands}
 

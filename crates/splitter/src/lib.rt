@@ -3,8 +3,10 @@
 
 mod adapter;
 mod calls;
+mod follow;
 mod making;
 mod runs;
 
-pub use making::{Splitter, check};
+pub use adapter::Splitter;
+pub use making::check;
 pub use runs::run_at;

@@ -1,20 +1,12 @@
-// A splitter and its making.
-ghost use Rattle.splitter.specs.Splits.{number_of, shows, numbered, make_answer, made_as};
+// Which slave a splitter may stand over, and with which number.
+ghost use Rattle.splitter.specs.Fits.{numbered};
+ghost use Rattle.splitter.specs.Making.{make_answer};
 ghost use Rattle.std.specs.Prelude.{◌≡◌};
 
-use slave::{Channels, MakeFault, Slave};
-
-// Sends every burst down in runs of at most `number` beats. The write keeps the worst response of the runs that are over.
-// Whoever moves the slave below elsewhere has a dead splitter until it stands there again.
-#[derive(Drop)]
-pub struct Splitter<S> {
-    pub below: S,
-    pub(crate) number: u16,
-    pub(crate) channels: Channels,
-}
+use slave::{MakeFault, Slave};
 
 // Whether a slave takes so many beats at once.
-pub(crate) fn takes<S: Slave>(below: &S, number: u16) -> bool
+fn takes<S: Slave>(below: &S, number: u16) -> bool
     ensures { result ≡ numbered number (S.meaning below.now) }
 {
     (1..=below.most()).contains(&number)
@@ -29,19 +21,4 @@ pub fn check<S: Slave>(below: &S, number: u16) -> Result<(), MakeFault>
         return Err(MakeFault::Measure);
     }
     Ok(())
-}
-
-impl<S: Slave> Splitter<S> {
-    // A splitter over a slave; a dead one where the check refuses it.
-    pub fn new(below: S, number: u16) -> Splitter<S>
-        ensures shown { shows S.meaning result ≡ made_as (make_answer number (S.meaning below)) (S.meaning below) }
-        ensures below { result.below ≡ below }
-        ensures number { number_of result ≡ number }
-    {
-        Splitter {
-            below,
-            number,
-            channels: Channels::idle(),
-        }
-    }
 }

@@ -6,16 +6,17 @@ mod tests {
     use burst::{BurstKind, RawBurst, Width};
     use ram::Ram;
     use recorder::Recorder;
-    use slave::{Channel, MakeFault, Slave};
+    use slave::{Channel, Made, MakeFault, Slave};
     use splitter::Splitter;
-    use std::alloc::{AllocError, Global};
+    use std::alloc::Global;
     use std::process::Abort;
     use std::test::Fail;
 
     // A splitter in runs of at most this number over a recording memory of 8 bytes' width that takes no more at once.
-    fn split(heap: Global, number: u16) -> Result<Splitter<Recorder<Ram>>, AllocError> {
+    fn split(heap: Global, number: u16) -> Result<Splitter<Recorder<Made<Ram>>>, Fail> {
         let memory = vec![in heap; 0u8; 4096]?;
-        Ok(Splitter::new(Recorder::new(Ram::new(memory, 8, number)), number))
+        let recorder = Recorder::new(Ram::new(memory, 8, number));
+        Splitter::new(recorder, number).map_err(|_| Fail::new("the making is refused"))
     }
 
     // Opens a burst and moves all its beats; how many were moved.
@@ -45,7 +46,7 @@ mod tests {
             moved(&mut splitter, channel, burst),
             usize::from(burst.count)
         );
-        let below = &splitter.below;
+        let below = splitter.below();
         let mut beat = 0u16;
         for opened in (0..below.count()).map_while(|i| below.opened(i)) {
             let (run, first) = splitter::run_at(lawful, number, beat).ok_or_else(|| Fail::new(
@@ -133,14 +134,14 @@ mod tests {
             (Channel::Write, RawBurst::new(BurstKind::Incr, 3, 1, 1)),
         ];
         for (i, burst) in down.into_iter().enumerate() {
-            let opened = splitter.below.opened(i);
+            let opened = splitter.below().opened(i);
             assert!(rt; opened.map(|opened| (opened.channel, opened.burst)) == Some(burst));
         }
-        assert_eq!(rt; splitter.below.count(), down.len());
+        assert_eq!(rt; splitter.below().count(), down.len());
         Ok(())
     }
 
-    // A run is opened only when its first beat is due, and the splitter is dead while the slave below is moved by another.
+    // A run is opened only when its first beat is due.
     #[test]
     fn follows_its_record(rt: HostRuntime) -> Result<(), Fail> {
         let mut splitter = split(rt.alloc(), 2)?;
@@ -149,22 +150,11 @@ mod tests {
                 .open(Channel::Read, RawBurst::new(BurstKind::Incr, 0, 2, 3))
                 .is_ok()
         );
-        assert_eq!(rt; splitter.below.count(), 1);
+        assert_eq!(rt; splitter.below().count(), 1);
         assert!(rt; splitter.take().is_ok());
-        assert_eq!(rt; splitter.below.count(), 1);
+        assert_eq!(rt; splitter.below().count(), 1);
         assert!(rt; splitter.take().is_ok());
-        assert_eq!(rt; splitter.below.count(), 2);
-        assert!(rt; splitter.live());
-        assert!(rt; splitter.below.take().is_ok());
-        assert!(rt; !splitter.live());
-        assert!(rt; splitter.take().is_err());
-        assert!(rt;
-            splitter
-                .below
-                .open(Channel::Read, RawBurst::new(BurstKind::Incr, 8, 2, 1))
-                .is_ok()
-        );
-        assert!(rt; splitter.live());
+        assert_eq!(rt; splitter.below().count(), 2);
         assert!(rt; splitter.take().is_ok());
         Ok(())
     }

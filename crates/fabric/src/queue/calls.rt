@@ -1,5 +1,5 @@
 // What requests, grants and beats do to a channel.
-ghost use Rattle.std.specs.Prelude.{◌≡◌, ◌+◌, ◌<◌, length, IfOk, Some};
+ghost use Rattle.std.specs.Prelude.{◌≡◌, ◌+◌, ◌<◌, length, IfOk, Some, false, is_ok};
 ghost use Rattle.std.specs.Option.{option_and_then};
 ghost use Rattle.fabric.specs.Rows.{moved};
 ghost use Rattle.fabric.specs.Picking.{ByRule};
@@ -44,6 +44,7 @@ impl ChannelQueue {
     pub(crate) fn request(&mut self, request: Request) -> Outcome
         ensures answer { result ≡ request_answer (queue_of self.old) request }
         ensures after { queue_of self.new ≡ request_after (queue_of self.old) request }
+        ensures refused { is_ok result ≡ false → self.new ≡ self.old }
     {
         if request.master > LAST_MASTER || request.qos > MOST_QOS {
             return Err(FabricFault::Source);
@@ -59,6 +60,7 @@ impl ChannelQueue {
         ensures answer { result ≡ open_row_answer (queue_of self.old) (S.Slave.meaning slave.old) channel at }
         ensures after { queue_of self.new ≡ open_row_after (queue_of self.old) (S.Slave.meaning slave.old) channel at }
         ensures slave { S.Slave.meaning slave.new ≡ open_row_slave (queue_of self.old) (S.Slave.meaning slave.old) channel at }
+        ensures refused { is_ok result ≡ false → (self.new ≡ self.old) × (slave.new ≡ slave.old) }
     {
         let request = self.waiting.request(at);
         slave.open(channel, request.burst)?;
@@ -75,6 +77,7 @@ impl ChannelQueue {
         ensures answer { result ≡ grant_answer (queue_of self.old) (S.Slave.meaning slave.old) channel }
         ensures after { queue_of self.new ≡ grant_after (queue_of self.old) (S.Slave.meaning slave.old) channel }
         ensures slave { S.Slave.meaning slave.new ≡ grant_slave (queue_of self.old) (S.Slave.meaning slave.old) channel }
+        ensures refused { is_ok result ≡ false → (self.new ≡ self.old) × (slave.new ≡ slave.old) }
         ensures rule { ByRule (queue_of self.old).rows }
     {
         match (self.current, self.waiting.pick()) {

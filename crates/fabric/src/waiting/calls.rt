@@ -1,5 +1,5 @@
 // Adding a request, picking one, and taking it out.
-ghost use Rattle.std.specs.Prelude.{◌≡◌, ◌<◌, [], map, length, IfSome, IfOk};
+ghost use Rattle.std.specs.Prelude.{◌≡◌, ◌<◌, [], map, length, IfSome, IfOk, false, is_ok};
 ghost use Rattle.fabric.specs.Picking.{choice, ByRule};
 ghost use Rattle.fabric.specs.Rows.{older, row_at};
 ghost use Rattle.fabric.specs.Waits.{rows_of, room_answer, rows_with};
@@ -33,6 +33,7 @@ impl Waiting {
     pub(crate) fn push(&mut self, request: Request) -> Result<(), FabricFault>
         ensures answer { result ≡ room_answer (rows_of self.old) }
         ensures after { rows_of self.new ≡ rows_with request (rows_of self.old) }
+        ensures refused { is_ok result ≡ false → self.new ≡ self.old }
     {
         if self.rows.len() >= MOST_WAITING {
             return Err(FabricFault::Full);

@@ -1,6 +1,7 @@
 -- The run leaves a pile that answers and shows the kinds of its memory, and so the memory's length.
-use Rattle.std.proofs.Common.{ℕ, ◌≤◌, List, length, vec_len, sym, ap, ◌∙◌, subst}
+use Rattle.std.proofs.Common.{◌≡◌, ℕ, ◌≤◌, List, length, vec_len, sym, ap, ◌∙◌, subst}
 use Rattle.slave.specs.Meaning.{Meaning}
+use Rattle.ram.specs.declared.calls.Ram.{Ram}
 use Rattle.history.specs.Bytes.{Board}
 use Rattle.bench.specs.Piles.{loaded}
 use Rattle.bench.proofs.Calls.{length_loaded}
@@ -11,6 +12,8 @@ pub returns-clause-memory : goal.returns-clause-memory
 returns-clause-memory c =
     let xs : List ℕ = loaded c.image.result.now 8192 in
     let left = c.measure-bytes.ensures.run.run.slave in
-    ap vec_len c.into_memory.ensures
-    ∙ pile_length c.measure-bytes.new.slave xs (ap (λ (z : Meaning). z.live) left) (ap (λ (z : Meaning). z.kinds) left ∙ ap (λ (b : Board). b.kinds) c.begin-pile.ensures.board)
+    let below : c.into_below-ram.result ≡ c.measure-bytes.new.slave.below.below.below =
+    c.into_below-ram.ensures ∙ ap (λ z. z.below) (c.into_below-2.ensures ∙ ap (λ z. z.below) c.into_below.ensures) in
+    ap vec_len (c.into_memory.ensures ∙ ap (λ (z : Ram). z.memory) below)
+    ∙ pile_length c.measure-bytes.new.slave xs (ap (λ (z : Meaning). z.kinds) left ∙ ap (λ (b : Board). b.kinds) c.begin-pile.ensures.board)
     ∙ length_loaded c.image.result.now 8192 (subst (λ (z : List ℕ). length z ≤ 8192) (sym c.image.ensures) c.args.script.most_image)

@@ -4,6 +4,4 @@ use Rattle.converter.proofs.Told.{open_left_for}
 use Rattle.converter.proofs.state.Converter.strays.Goals as goal
 
 pub returns : goal.returns
-returns g c =
-    let x = c.args.self.now in
-    c.strays.ensures.left (open_left_for x.width x.channels (g.S.Slave.meaning x.below) c.args.bus Write c.args.at c.requires.alive x.opens c.requires.stands)
+returns g c = let x = c.args.self.now in c.strays.ensures.left (open_left_for x.width x.channels Write c.args.at x.opens c.requires)

@@ -1,6 +1,7 @@
 use Rattle.std.proofs.Common.{Ok, refl, ap, ◌∙◌}
 use Rattle.burst.specs.Beats.{raw_of}
 use Rattle.slave.specs.declared.answer.Channel.TheVariants.{Read}
+use Rattle.slave.specs.Making.{ready}
 use Rattle.slave.specs.Meaning.{told}
 use Rattle.converter.proofs.Told.{open_lawful_for, open_left_for, beat_opens, took}
 use Rattle.converter.proofs.state.Converter.take_beat.Goals as goal
@@ -8,14 +9,14 @@ use Rattle.converter.proofs.state.Converter.take_beat.Goals as goal
 pub next_of-beat-requires : goal.next_of-beat-requires
 next_of-beat-requires g c =
     let x = c.args.self.now in
-    record { lawful = open_lawful_for x.width x.channels (g.S.Slave.meaning x.below) c.args.bus Read c.args.at c.requires.alive x.opens c.requires.stands; left = open_left_for x.width x.channels (g.S.Slave.meaning x.below) c.args.bus Read c.args.at c.requires.alive x.opens c.requires.stands }
+    record { lawful = open_lawful_for x.width x.channels Read c.args.at x.opens c.requires; left = open_left_for x.width x.channels Read c.args.at x.opens c.requires }
 
 pub invariant_of-self : goal.invariant_of-self
 invariant_of-self g c =
     let x = c.args.self.now in
     record {
-      opens = beat_opens x.width x.channels (g.S.Slave.meaning x.below) c.args.bus Read c.args.at c.requires.alive x.opens c.requires.stands
-          c.step.new.self c.fetch-word.result.1 c.step.ensures.place c.step.ensures.stays;
+      idle = ap ready c.fetch-word.ensures.after ∙ x.idle;
+      opens = beat_opens x.width x.channels Read c.args.at x.opens c.requires c.step.new.self c.fetch-word.result.1 c.step.ensures.place c.step.ensures.stays;
     }
 
 pub returns : goal.returns
@@ -24,10 +25,10 @@ returns g c =
     let m = g.S.Slave.meaning x.below in
     let b = raw_of c.args.at.burst in
     let y = c.next_of-beat.result in
-    let lawful = open_lawful_for x.width x.channels m c.args.bus Read c.args.at c.requires.alive x.opens c.requires.stands in
+    let lawful = open_lawful_for x.width x.channels Read c.args.at x.opens c.requires in
     let e = c.fetch-word.ensures in
     let z = c.fetch-word.result in
     let s = c.step.ensures in
-    let r = took x.width x.channels c.step.new.self m (g.S.Slave.meaning c.fetch-word.new.slave) c.args.bus y.bus b c.args.at.taken y.cover c.requires.alive lawful c.next_of-beat.ensures.cover c.next_of-beat.ensures.bus
-    z.0 z.1 (ap told c.requires.stands) e.word e.worst e.after s.place s.stays in
+    let r = took x.channels c.step.new.self m (g.S.Slave.meaning c.fetch-word.new.slave) x.width y.bus b c.args.at.taken y.cover lawful c.next_of-beat.ensures.cover c.next_of-beat.ensures.bus
+    z.0 z.1 (ap told c.requires) e.word e.worst e.after s.place s.stays in
     record { answer = ap (λ k. Ok (z.0, z.1, k)) c.left.ensures ∙ r.0; after = r.1; width = refl }

@@ -1,9 +1,11 @@
-use Rattle.std.proofs.Common.{◌≡◌, false, sym, ap, ltb}
+use Rattle.std.proofs.Common.{◌≡◌, false, is_ok, sym, ap, ◌∙◌, ltb}
+use Rattle.std.proofs.lemmas.Bool.{true≢false}
+use Rattle.slave.specs.declared.answer.Step.TheVariants.{Beat}
 use Rattle.burst.specs.Rules.{width_bytes}
 use Rattle.burst.specs.Beats.{raw_of, address_of, last_of}
 use Rattle.slave.specs.Lanes.{stray}
 use Rattle.slave.specs.Meaning.{told}
-use Rattle.slave.specs.Acts.{past}
+use Rattle.slave.specs.Acts.{past, step_answer}
 use Rattle.slave.proofs.Calls.{open_lawful, open_left}
 use Rattle.burst.proofs.Facts.{some_is}
 use Rattle.ram.specs.Beats.{stored_is}
@@ -26,4 +28,5 @@ returns c =
       answer = rw (c.step.ensures.answer, here, open_is, kept);
       after = rw (c.store_word-here.ensures.after, cover, c.step.ensures.place, c.step.ensures.worst, here, open_is, kept)
           (stored_is c.args.memory.now p.width p.most b k p.channels.write.worst (told p.channels.read.place) c.args.word c.args.strobe lawful kept (past b k) _ (worst_past b k _));
+      refused = λ r. absurd (true≢false (sym (ap is_ok (c.step.ensures.answer ∙ ap (λ q. step_answer (told q) p.channels.write.worst (Beat c.store_word-here.result)) open_is)) ∙ r));
     }
