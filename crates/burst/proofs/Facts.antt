@@ -7,8 +7,8 @@ use Rattle.std.proofs.lemmas.Bool.Decides.{nat_tests}
 use Rattle.burst.specs.declared.raw.Width.{Width}
 use Rattle.burst.specs.declared.raw.Width.TheVariants.{One, Two, Four, Eight}
 use Rattle.burst.specs.declared.raw.RawBurst.{RawBurst}
-use Rattle.burst.specs.Beats.{first_refusal, address_of, last_of, last_from}
-use Rattle.burst.specs.Rules.{width_bytes, refusal, wrap_count}
+use Rattle.burst.specs.Beats.{IsLawful, address_of, last_of, last_from}
+use Rattle.burst.specs.Rules.{width_bytes, refusal, wrap_count, KeepsPage}
 
 -- one beat more of N bytes, still within n beats
 pub more : (j n N : ℕ) → j < n → j * N + N ≤ n * N
@@ -28,8 +28,8 @@ pub record Facts (k a s n : ℕ) : Type 0 where
   pub size : s ≤ 3
   pub low : 0 < n
   pub high : n ≤ 256
-  pub incr : k ≡ 1 → a % 4096 + n * 2 ^ s ≤ 4096
-  pub fixed : k ≡ 0 → a % 4096 + 1 * 2 ^ s ≤ 4096
+  pub incr : k ≡ 1 → KeepsPage a (2 ^ s) n
+  pub fixed : k ≡ 0 → KeepsPage a (2 ^ s) 1
   pub aligned : k ≡ 2 → a % 2 ^ s ≡ 0
   pub wrap : k ≡ 2 → wrap_count n ≡ true
 
@@ -107,7 +107,7 @@ in_word k s f h l =
       small = pow_mono {i = k} {j = 3} h;
     }
 
-pub beat_in_word : (w : Width) (b : RawBurst) (j : ℕ) → first_refusal (width_bytes w) b ≡ 0 → InWord (width_bytes w) (address_of b j) (last_of b j)
+pub beat_in_word : (w : Width) (b : RawBurst) (j : ℕ) → IsLawful (width_bytes w) b → InWord (width_bytes w) (address_of b j) (last_of b j)
 unfolding last_of
 beat_in_word w b j h =
     let p = width_power w in
@@ -124,7 +124,7 @@ pub base_le : (v f : ℕ) → f / v * v ≤ f
 base_le v f = omega (arith, div-add-mod' f v)
 
 -- an INCR burst whose beats fit the width and keep to the page is lawful
-pub incr_lawful : (w a s c : ℕ) → 2 ^ s ≤ w → 0 < c → c ≤ 256 → a % 4096 + c * 2 ^ s ≤ 4096 → refusal w 1 a s c ≡ 0
+pub incr_lawful : (w a s c : ℕ) → 2 ^ s ≤ w → 0 < c → c ≤ 256 → KeepsPage a (2 ^ s) c → refusal w 1 a s c ≡ 0
 incr_lawful w a s c h l u p = grind (arith, nat_tests)
 
 second_test : (p q r : Bool) (x : ℕ) → cond p 1 (cond q 2 x) ≡ 0 → r ≡ false → cond p 1 (cond r 2 x) ≡ 0

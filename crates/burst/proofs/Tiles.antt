@@ -3,9 +3,10 @@ use Rattle.std.proofs.Common.{◌≡◌, ℕ, zero, suc, ◌+◌, ◌-◌, ◌*�
 use Rattle.std.proofs.lemmas.Nat.{div-add-mod', mod_below, pow_pos, div-mul-add, div_below, le-div}
 use Rattle.std.proofs.lemmas.Bool.{eq-eqb, ne_eqb, cond-true, cond-false, cases_lt, cases_eq, and_parts, leb-true}
 use Rattle.std.proofs.lemmas.Bool.Decides.{nat_tests}
+use Rattle.burst.specs.Rules.{KeepsPage}
 use Rattle.burst.specs.declared.raw.RawBurst.{RawBurst}
 use Rattle.burst.specs.declared.raw.Cover.{Cover}
-use Rattle.burst.specs.Beats.{container_of, first_refusal, address_of, last_of, incr_address, wrap_address, container, turn_of, covers, span_of}
+use Rattle.burst.specs.Beats.{container_of, IsLawful, address_of, last_of, incr_address, wrap_address, container, turn_of, covers, span_of}
 use Rattle.burst.specs.Laws.{covered, Once, BeatsLie}
 use Rattle.burst.proofs.Facts.{more, Facts, facts, round_power}
 use Rattle.burst.proofs.Walks.{incr_aligned, before_below, start_is, wrap_first, wrap_second, low_page}
@@ -25,7 +26,7 @@ block_is N q a lo hi = ap (λ x. x / N) (let z : a ≡ q * N + (a - q * N) = ome
 same_page : (s a m : ℕ) → s ≤ a → a < s + m → s % 4096 + m ≤ 4096 → a / 4096 ≡ s / 4096
 same_page s a m lo hi room = omega arith
 
-module _ (b : RawBurst) (lawful : first_refusal 8 b ≡ 0) where
+module _ (b : RawBurst) (lawful : IsLawful 8 b) where
   abbrev N : ℕ
   N = 2 ^ b.size
 
@@ -183,7 +184,7 @@ module _ (b : RawBurst) (lawful : first_refusal 8 b ≡ 0) where
         let p = between (address_of b j) (last_of b j) a c in
         (omega (arith, p.0, wrap_at j h), omega (arith, p.1, wrap_last j h, more (slot j) n N (slot_below j h)))
 
-    room : low % 4096 + n * N ≤ 4096
+    room : KeepsPage low N n
     room = let p = round_power n b.size (known.wrap k) known.size in low_page a0 N n pos some aligned p.0 p.1 p.2
 
     -- the beat with a slot

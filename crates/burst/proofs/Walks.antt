@@ -3,6 +3,7 @@ use Rattle.std.proofs.Common.{◌≡◌, ℕ, ◌+◌, ◌-◌, ◌*◌, ◌/◌
 use native.Mathlib.Nat.{add-mod_left, div-div-eq-div-mul, mul-mod_left}
 use Rattle.std.proofs.lemmas.Nat.{div-add-mod', mod_below, mul-le}
 use Rattle.std.proofs.lemmas.Bool.{eqb-true, eqb-false, eq-eqb, ne_eqb, cond-false, cond_both, cases_eq}
+use Rattle.burst.specs.Rules.{KeepsPage}
 use Rattle.burst.specs.Beats.{incr_address, wrap_address, turn_of}
 use Rattle.burst.proofs.Facts.{more, block_in_block}
 
@@ -37,12 +38,12 @@ pub low_aligned : (a N n : ℕ) → a / (n * N) * (n * N) % N ≡ 0
 low_aligned a N n = ap (λ y. y % N) (sym (mul_assoc (a / (n * N)) n N)) ∙ mul-mod_left (a / (n * N) * n) N
 
 -- and it keeps to the page
-pub incr_page : (a N x c K : ℕ) → 0 < N → a % 4096 + K * N ≤ 4096 → x + c ≤ K → 0 < c → incr_address a N x % 4096 + c * N ≤ 4096
+pub incr_page : (a N x c K : ℕ) → 0 < N → KeepsPage a N K → x + c ≤ K → 0 < c → KeepsPage (incr_address a N x) N c
 incr_page a N x c K h p l s =
     let all : (x + c) * N ≤ K * N = mul-le (x + c) N K N l (omega arith) in
     let sum : (x + c) * N ≡ x * N + c * N = add-mul x c N in
     let one : 0 * N + N ≤ c * N = more 0 c N s in
-    cond_both (eqb x 0) a (a / N * N + x * N) (λ y. y % 4096 + c * N ≤ 4096)
+    cond_both (eqb x 0) a (a / N * N + x * N) (λ y. KeepsPage y N c)
     (λ _. omega arith)
     (λ t. let pos : 0 < x = omega (arith, eqb-false x 0 t) in
     let two : 0 * N + N ≤ x * N = more 0 x N pos in
@@ -88,7 +89,7 @@ module _ (a N n : ℕ) (pos : 0 < N) (some : 0 < n) (aligned : a % N ≡ 0) wher
       ap (λ y. low + y % (n * N)) (reach j ∙ s) ∙ ap (λ y. low + y) (add-mod_left (n * N) (r * N) ∙ mod-eq_of_lt lt)
 
   -- both parts keep to the page, where the container is a power of two
-  pub low_page : (k : ℕ) → k ≤ 7 → n * N ≡ 2 ^ k → low % 4096 + n * N ≤ 4096
+  pub low_page : (k : ℕ) → k ≤ 7 → n * N ≡ 2 ^ k → KeepsPage low N n
   low_page k h e =
       let round : low / 2 ^ k * 2 ^ k ≡ low =
       ap (λ y. low / y * y) (sym e) ∙ ap (λ y. y * (n * N)) (mul-div_cancel (a / (n * N)) (let z : 0 < n * N = omega (arith, more 0 n N some) in z)) in
@@ -104,5 +105,5 @@ module _ (a N n : ℕ) (pos : 0 < N) (some : 0 < n) (aligned : a % N ≡ 0) wher
       let st : a ≡ low + before * N = start_is in
       omega arith
 
-  pub second_page : (k : ℕ) → k ≤ 7 → n * N ≡ 2 ^ k → low % 4096 + (n - turn_of a N n) * N ≤ 4096
+  pub second_page : (k : ℕ) → k ≤ 7 → n * N ≡ 2 ^ k → KeepsPage low N (n - turn_of a N n)
   second_page k h e = omega (arith, low_page k h e, mul-le (n - turn_of a N n) N n N (omega arith) (omega arith))

@@ -1,5 +1,5 @@
 -- Where the beats of a burst lie: addresses, the bytes that a beat covers, and the lanes that they travel in.
-use Rattle.std.specs.Prelude.{ℕ, zero, suc, ◌+◌, ◌-◌, ◌*◌, ◌/◌, ◌%◌, ◌^◌, Bool, false, cond, ◌&&◌, ◌||◌, Some, None, Ok, Err, Option, Result, ◌==◌, nat_le, nat_lt}
+use Rattle.std.specs.Prelude.{◌≡◌, ℕ, zero, suc, ◌+◌, ◌-◌, ◌*◌, ◌/◌, ◌%◌, ◌^◌, Bool, false, if◌then◌else◌, ◌&&◌, ◌||◌, Some, None, Ok, Err, Option, Result, ◌==◌, nat_le, nat_lt}
 use Rattle.burst.specs.declared.raw.BurstFault.{BurstFault}
 use Rattle.burst.specs.declared.raw.RawBurst.{RawBurst}
 use Rattle.burst.specs.declared.raw.Cover.{Cover}
@@ -14,6 +14,14 @@ raw_of b = record { kind = kind_code b.kind; start = b.start; size = b.size; cou
 abbrev pub first_refusal : ℕ → RawBurst → ℕ
 first_refusal w r = refusal w r.kind r.start r.size r.count
 
+-- no rule is broken on a bus of w bytes
+abbrev pub IsLawful : ℕ → RawBurst → Type 0
+IsLawful w b = first_refusal w b ≡ 0
+
+-- the INCR burst of n beats of 2 ^ s bytes from the address a on
+abbrev pub incr_burst : ℕ → ℕ → ℕ → RawBurst
+incr_burst a s n = record { kind = 1; start = a; size = s; count = n }
+
 -- the number that an answer of a check stands for, 0 where the burst is lawful
 abbrev pub answered : {A : Type 0} → Result A BurstFault → ℕ
 answered (Ok x) = 0
@@ -21,7 +29,7 @@ answered (Err e) = fault_number e
 
 -- INCR: beat 0 is at the start a, and beat j at floor(a / N) × N + j × N
 abbrev pub incr_address : ℕ → ℕ → ℕ → ℕ
-incr_address a N j = cond (j == 0) a (a / N * N + j * N)
+incr_address a N j = if j == 0 then a else (a / N * N + j * N)
 
 -- the start of the container of C bytes that a WRAP burst goes round in
 abbrev pub container : ℕ → ℕ → ℕ
@@ -38,8 +46,8 @@ turn_of a N n = n - a / N % n
 -- the address of beat j; every beat of a FIXED burst is at its start
 unfoldable pub address_of : RawBurst → ℕ → ℕ
 address_of b j =
-    cond (b.kind == 0) b.start
-    (cond (b.kind == 1) (incr_address b.start (2 ^ b.size) j) (wrap_address b.start (2 ^ b.size) b.count j))
+    if b.kind == 0 then b.start
+    else (if b.kind == 1 then incr_address b.start (2 ^ b.size) j else wrap_address b.start (2 ^ b.size) b.count j)
 
 -- the last byte that a beat of N bytes at the address a covers
 abbrev pub last_from : ℕ → ℕ → ℕ
@@ -49,13 +57,17 @@ last_from a N = a / N * N + N - 1
 unfoldable pub last_of : RawBurst → ℕ → ℕ
 last_of b j = last_from (address_of b j) (2 ^ b.size)
 
+-- the bytes that beat j covers
+abbrev pub cover_of : RawBurst → ℕ → Cover
+cover_of b j = record { first = address_of b j; last = last_of b j }
+
 -- the address of beat j, none from the count on
 abbrev pub address_answer : RawBurst → ℕ → Option ℕ
-address_answer b j = cond (nat_lt j b.count) (Some (address_of b j)) None
+address_answer b j = if nat_lt j b.count then Some (address_of b j) else None
 
 -- the bytes that beat j covers, none from the count on
 abbrev pub cover_answer : RawBurst → ℕ → Option Cover
-cover_answer b j = cond (nat_lt j b.count) (Some (record { first = address_of b j; last = last_of b j })) None
+cover_answer b j = if nat_lt j b.count then Some (cover_of b j) else None
 
 -- whether the address a lies between f and l
 abbrev pub covers : ℕ → ℕ → ℕ → Bool
@@ -70,7 +82,7 @@ container_of b = record {
 
 -- the span that the beats lie in: the container of a WRAP burst
 abbrev pub span_of : RawBurst → Cover
-span_of b = cond (b.kind == 2) (container_of b) (record { first = b.start; last = last_of b (b.count - 1) })
+span_of b = if b.kind == 2 then container_of b else record { first = b.start; last = last_of b (b.count - 1) }
 
 -- bit i of a number
 abbrev pub bit : ℕ → ℕ → Bool
@@ -84,7 +96,7 @@ any_below p (suc i) = any_below p i || p i
 -- the number whose bit i, for each i below n, says whether p holds of i
 unfoldable pub mask_below : (ℕ → Bool) → ℕ → ℕ
 mask_below p zero = 0
-mask_below p (suc i) = mask_below p i + cond (p i) (2 ^ i) 0
+mask_below p (suc i) = mask_below p i + (if p i then 2 ^ i else 0)
 
 -- whether one of the bytes f to l, at most eight, travels in lane i of a bus of w bytes: the byte at a travels in lane a mod w
 abbrev pub lane_used : ℕ → ℕ → ℕ → ℕ → Bool
@@ -96,7 +108,7 @@ lane_mask w f l = mask_below (lane_used w f l) 8
 
 -- the lanes of beat j, none from the count on
 abbrev pub lanes_answer : ℕ → RawBurst → ℕ → Option ℕ
-lanes_answer w b j = cond (nat_lt j b.count) (Some (lane_mask w (address_of b j) (last_of b j))) None
+lanes_answer w b j = if nat_lt j b.count then Some (lane_mask w (address_of b j) (last_of b j)) else None
 
 -- the address whose byte travels in lane i beside the byte at f, on a bus of w bytes
 abbrev pub lane_address : ℕ → ℕ → ℕ → ℕ

@@ -1,5 +1,5 @@
 -- Which bursts are lawful, and the number of each refusal.
-use Rattle.std.specs.Prelude.{ℕ, ◌+◌, ◌*◌, ◌%◌, ◌^◌, Bool, cond, not, ◌&&◌, ◌||◌, ◌==◌, nat_lt}
+use Rattle.std.specs.Prelude.{ℕ, ◌+◌, ◌*◌, ◌%◌, ◌^◌, ◌≤◌, Bool, if◌then◌else◌, not, ◌&&◌, ◌||◌, ◌==◌, nat_lt}
 use Rattle.burst.specs.declared.raw.BurstKind.{BurstKind}
 use Rattle.burst.specs.declared.raw.BurstKind.TheVariants.{Fixed, Incr, Wrap}
 use Rattle.burst.specs.declared.raw.Width.{Width}
@@ -44,6 +44,10 @@ bad_start k a s = k == 2 && not (a % 2 ^ s == 0)
 abbrev pub leaves_page : ℕ → ℕ → ℕ → Bool
 leaves_page a N m = nat_lt 4096 (a % 4096 + m * N)
 
+-- the same beats keep to that page
+abbrev pub KeepsPage : ℕ → ℕ → ℕ → Type 0
+KeepsPage a N m = a % 4096 + m * N ≤ 4096
+
 -- the page rule counts every beat of an INCR burst, and one of a FIXED burst; a WRAP burst never leaves its page
 abbrev pub bad_page : ℕ → ℕ → ℕ → ℕ → Bool
 bad_page k a s n = (k == 1 && leaves_page a (2 ^ s) n) || (k == 0 && leaves_page a (2 ^ s) 1)
@@ -51,12 +55,12 @@ bad_page k a s n = (k == 1 && leaves_page a (2 ^ s) n) || (k == 0 && leaves_page
 -- the number of the first rule that a burst breaks on a bus of w bytes, or 0: kind k, start a, beats of 2 ^ s bytes, n beats
 abbrev pub refusal : ℕ → ℕ → ℕ → ℕ → ℕ → ℕ
 refusal w k a s n =
-    cond (nat_lt 2 k) 1
-    (cond (nat_lt w (2 ^ s)) 2
-    (cond (bad_count k n) 3
-    (cond (bad_start k a s) 4
-    (cond (bad_page k a s n) 5 0))))
+    if nat_lt 2 k then 1
+    else (if nat_lt w (2 ^ s) then 2
+    else (if bad_count k n then 3
+    else (if bad_start k a s then 4
+    else (if bad_page k a s n then 5 else 0))))
 
 -- the fault that has a number from 1 to 5
 abbrev pub fault_at : ℕ → BurstFault
-fault_at n = cond (n == 1) Kind (cond (n == 2) Size (cond (n == 3) Count (cond (n == 4) Start Page)))
+fault_at n = if n == 1 then Kind else (if n == 2 then Size else (if n == 3 then Count else (if n == 4 then Start else Page)))

@@ -9,7 +9,7 @@ use Rattle.burst.specs.declared.raw.BurstKind.{BurstKind}
 use Rattle.burst.specs.declared.raw.BurstKind.TheVariants.{Fixed, Incr, Wrap}
 use Rattle.burst.specs.declared.checked.Burst.{Burst}
 use Rattle.burst.specs.Rules.{width_bytes, kind_code, refusal}
-use Rattle.burst.specs.Beats.{address_of, last_of, wrap_address, raw_of, first_refusal}
+use Rattle.burst.specs.Beats.{address_of, last_of, wrap_address, raw_of, IsLawful}
 use Rattle.burst.proofs.Facts.{facts, size_fits, width_power}
 use Rattle.converter.specs.Pieces.{Room, Beat}
 use Rattle.converter.proofs.Cuts.{aligned_page}
@@ -53,7 +53,7 @@ page_at Wrap a s n j h =
     subst (λ x. Room x (2 ^ s)) (sym q.1) (aligned_page s F.size q.0)
 
 -- a beat of an open burst
-pub beat_of : (W : Width) (b : Burst) (k : ℕ) → first_refusal (width_bytes W) (raw_of b) ≡ 0 → Beat (width_bytes W) (address_of (raw_of b) k) (last_of (raw_of b) k) b.size
+pub beat_of : (W : Width) (b : Burst) (k : ℕ) → IsLawful (width_bytes W) (raw_of b) → Beat (width_bytes W) (address_of (raw_of b) k) (last_of (raw_of b) k) b.size
 unfolding last_of
 beat_of W b k h =
     record {

@@ -8,7 +8,7 @@ use Rattle.std.proofs.lemmas.Nat.{div-add-mod', mod_below, pow_pos}
 use Rattle.burst.specs.declared.raw.Width.{Width}
 use Rattle.burst.specs.declared.raw.Width.TheVariants.{One, Two, Four, Eight}
 use Rattle.burst.specs.Rules.{width_bytes}
-use Rattle.burst.specs.Beats.{last_from, first_refusal}
+use Rattle.burst.specs.Beats.{last_from, IsLawful}
 use Rattle.burst.proofs.Facts.{InWord, block_in_block, width_some, width_power, code_le, base_le}
 use Rattle.converter.specs.declared.beat.BusBeat.{BusBeat}
 use Rattle.converter.specs.Pieces.{Room, Cuttable, behind, width_code, smaller, piece_end, piece_burst, Beat}
@@ -94,7 +94,7 @@ beat_word w f l s b =
     })
 
 -- a beat goes down alone as a lawful burst
-pub beat_lawful : (w f l s : ℕ) → Beat w f l s → first_refusal w (piece_burst s f) ≡ 0
+pub beat_lawful : (w f l s : ℕ) → Beat w f l s → IsLawful w (piece_burst s f)
 beat_lawful w f l s b = let p = b.fits in let q = b.page in grind (arith, nat_tests)
 
 -- a beat has at most eight bytes

@@ -1,6 +1,6 @@
 -- One beat sent down or fetched from below.
 use Rattle.std.proofs.Common.{◌≡◌, ℕ, ◌^◌, true, false, Ok, Result, sym, refl, ap, ◌∙◌}
-use Rattle.burst.specs.Beats.{first_refusal, address_of, last_of, last_from}
+use Rattle.burst.specs.Beats.{IsLawful, address_of, last_of, last_from}
 use Rattle.slave.specs.declared.answer.Response.{Response}
 use Rattle.slave.specs.declared.answer.Response.TheVariants.{Okay}
 use Rattle.slave.specs.declared.answer.Given.{Given}
@@ -26,7 +26,7 @@ last_is : (c a : ℕ) → last_of (piece_burst c a) 0 ≡ last_from a (2 ^ c)
 unfolding address_of last_of
 last_is c a = refl
 
-module _ (m : Meaning) (c a : ℕ) (s : Sound m) (still : ready m ≡ true) (lawful : first_refusal m.width (piece_burst c a) ≡ 0) where
+module _ (m : Meaning) (c a : ℕ) (s : Sound m) (still : ready m ≡ true) (lawful : IsLawful m.width (piece_burst c a)) where
   -- both channels are idle
   free : (ch : Channel) → stand_at m ch ≡ idle
   free Write = (ready_parts m still).1

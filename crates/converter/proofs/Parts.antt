@@ -1,6 +1,6 @@
 -- A piece sent or fetched.
 use Rattle.std.proofs.Common.{◌≡◌, ℕ, ◌+◌, ◌*◌, ◌/◌, ◌^◌, true, false, Ok, Result, sym, ◌∙◌, ap, subst}
-use Rattle.burst.specs.Beats.{last_from, first_refusal}
+use Rattle.burst.specs.Beats.{last_from, IsLawful}
 use Rattle.burst.proofs.Facts.{InWord}
 use Rattle.slave.specs.declared.answer.Response.{Response}
 use Rattle.slave.specs.declared.answer.Response.TheVariants.{Okay}
@@ -25,8 +25,8 @@ module _ (m : Meaning) (v a e c : ℕ) (same : v ≡ m.width) (b : Beat v a e c)
   below = subst (λ x. InWord x a e) same (beat_word v a e c b)
 
   -- it is lawful there
-  pub part_lawful : first_refusal m.width (piece_burst c a) ≡ 0
-  part_lawful = subst (λ x. first_refusal x (piece_burst c a) ≡ 0) same (beat_lawful v a e c b)
+  pub part_lawful : IsLawful m.width (piece_burst c a)
+  part_lawful = subst (λ x. IsLawful x (piece_burst c a)) same (beat_lawful v a e c b)
 
   -- the calls that send it, at a ready slave
   module _ (sound : Sound m) (still : ready m ≡ true) (w word s base cut bits : ℕ) (base-is : base ≡ a / v * v)

@@ -6,7 +6,7 @@ use Rattle.burst.specs.declared.raw.Cover.{Cover}
 use Rattle.burst.specs.declared.raw.RawBurst.{RawBurst}
 use Rattle.burst.specs.declared.raw.Width.{Width}
 use Rattle.burst.specs.Rules.{width_bytes}
-use Rattle.burst.specs.Beats.{raw_of, first_refusal, address_of, last_of}
+use Rattle.burst.specs.Beats.{raw_of, IsLawful, address_of, last_of}
 use Rattle.burst.proofs.Facts.{beat_in_word}
 use Rattle.slave.specs.declared.answer.Channel.{Channel}
 use Rattle.slave.specs.declared.answer.Channel.TheVariants.{Write, Read}
@@ -48,11 +48,11 @@ step_opens W c d ch h here stays =
     (subst (λ s. sound_stand (width_bytes W) (told s.place) ≡ true) (sym stays) (h (other ch)))
 
 -- a burst that is lawful for the width is opened soundly, and an open one stays
-opened_soundly : (w : ℕ) (p : Stand) (b : Burst) → sound_stand w p ≡ true → first_refusal w (raw_of b) ≡ 0 → sound_stand w (step_place p (Open b)) ≡ true
+opened_soundly : (w : ℕ) (p : Stand) (b : Burst) → sound_stand w p ≡ true → IsLawful w (raw_of b) → sound_stand w (step_place p (Open b)) ≡ true
 opened_soundly w idle b h e = grind (arith, nat_tests)
 opened_soundly w (busy a k) b h e = h
 
-pub open_opens : (W : Width) (c d : Channels) (ch : Channel) (b : Burst) → Opens W c → first_refusal (width_bytes W) (raw_of b) ≡ 0
+pub open_opens : (W : Width) (c d : Channels) (ch : Channel) (b : Burst) → Opens W c → IsLawful (width_bytes W) (raw_of b)
     → told (state_at ch d).place ≡ step_place (told (state_at ch c).place) (Open b) → state_at (other ch) d ≡ state_at (other ch) c → Opens W d
 open_opens W c d ch b opens lawful place stays =
     step_opens W c d ch opens
@@ -64,7 +64,7 @@ module _ (W : Width) (c : Channels) (ch : Channel) (x : OpenBurst) (opens : Open
   stands_at = ap told at
 
   -- it is lawful for the width
-  pub open_lawful_for : first_refusal (width_bytes W) (raw_of x.burst) ≡ 0
+  pub open_lawful_for : IsLawful (width_bytes W) (raw_of x.burst)
   open_lawful_for = open_lawful (width_bytes W) (told (state_at ch c).place) (raw_of x.burst) x.taken (opens ch) stands_at
 
   -- and a beat of it is left
@@ -78,7 +78,7 @@ module _ (W : Width) (c : Channels) (ch : Channel) (x : OpenBurst) (opens : Open
       (step_sound (width_bytes W) (told (state_at ch c).place) (told (state_at ch d).place) (raw_of x.burst) x.taken (opens ch) stands_at (place ∙ ap (λ q. step_place q (Beat r)) stands_at)) stays
 
 -- beat k of the open burst b, which covers y on the bus V; the slave below is m before it and n after it, and the channels are c and d
-module _ (c d : Channels) (m n : Meaning) (W V : Width) (b : RawBurst) (k : ℕ) (y : Cover) (lawful : first_refusal (width_bytes W) b ≡ 0)
+module _ (c d : Channels) (m n : Meaning) (W V : Width) (b : RawBurst) (k : ℕ) (y : Cover) (lawful : IsLawful (width_bytes W) b)
     (y-is : y ≡ record { first = address_of b k; last = last_of b k }) (V-is : V ≡ W) where
   -- a write beat
   module _ (word s : ℕ) (here : Response) (ans : Result Given SlaveFault) (stands : told c.write.place ≡ busy b k) (kept : stray (width_bytes W) (address_of b k) (last_of b k) s ≡ false)

@@ -3,7 +3,7 @@ ghost use Rattle.std.specs.Prelude.{◌≡◌, ◌*◌, ◌/◌, ◌^◌, ◌<�
 ghost use Rattle.std.specs.Option.{ForSome};
 ghost use Rattle.std.specs.Iterator.{YieldsFirstBy, item_count};
 ghost use Rattle.burst.specs.Rules.{width_bytes};
-ghost use Rattle.burst.specs.Beats.{raw_of, address_of, last_of, last_from, first_refusal};
+ghost use Rattle.burst.specs.Beats.{raw_of, address_of, last_of, last_from, IsLawful};
 ghost use Rattle.converter.specs.Pieces.{Room, Cuttable, piece_burst, width_code, smaller, pieces, behind, pieces_left};
 
 use crate::cut;
@@ -24,7 +24,7 @@ pub(crate) struct BusBeat {
 impl BusBeat {
     // The next beat of an open burst that is lawful for the bus.
     pub(crate) fn next_of(at: OpenBurst, bus: Width) -> BusBeat
-        requires lawful { first_refusal (width_bytes bus) (raw_of at.burst) ≡ 0 }
+        requires lawful { IsLawful (width_bytes bus) (raw_of at.burst) }
         requires left { at.taken < at.burst.count }
         ensures cover { result.cover ≡ record { first = address_of (raw_of at.burst) at.taken; last = last_of (raw_of at.burst) at.taken } }
         ensures size { result.size ≡ at.burst.size }

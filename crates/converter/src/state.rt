@@ -44,7 +44,7 @@ impl<S: Slave + Drop> Converter<S> {
 }
 
 impl<S: Slave> Converter<S> {
-    ghost use Rattle.burst.specs.Beats.{raw_of, first_refusal, address_of, last_of};
+    ghost use Rattle.burst.specs.Beats.{raw_of, IsLawful, address_of, last_of};
     ghost use Rattle.converter.specs.Converters.{converter_shows};
     ghost use Rattle.slave.specs.Acts.{give_answer, give_after, take_answer, take_after, opened};
     ghost use Rattle.slave.specs.Lanes.{stray};
@@ -69,7 +69,7 @@ impl<S: Slave> Converter<S> {
     #[tactic(auto, using(crate::proofs::Told::open_opens))]
     pub(crate) fn begin(&mut self, channel: Channel, burst: Burst)
         requires free { (state_at channel self.old.channels).place ≡ None }
-        requires lawful { first_refusal (width_bytes self.old.width) (raw_of burst) ≡ 0 }
+        requires lawful { IsLawful (width_bytes self.old.width) (raw_of burst) }
         ensures after { converter_shows S.meaning self.new ≡ opened channel (raw_of burst) (converter_shows S.meaning self.old) }
         ensures width { self.new.width ≡ self.old.width }
     {

@@ -14,7 +14,7 @@ use Rattle.std.proofs.lemmas.Nat.{mod_below}
 use Rattle.burst.specs.declared.raw.RawBurst.{RawBurst}
 use Rattle.burst.specs.declared.raw.Width.{Width}
 use Rattle.burst.specs.Rules.{width_bytes}
-use Rattle.burst.specs.Beats.{first_refusal, address_of, last_of}
+use Rattle.burst.specs.Beats.{IsLawful, address_of, last_of}
 use Rattle.burst.proofs.Facts.{beat_in_word, width_power}
 use Rattle.slave.specs.declared.answer.Response.{Response}
 use Rattle.slave.specs.declared.answer.Response.TheVariants.{Okay}
@@ -31,7 +31,7 @@ use Rattle.ram.specs.Stores.{put_written, length_put, kind_same}
 
 -- memory after a beat's lanes are stored, with the write channel standing elsewhere
 pub stored_is : (xs : List ℕ) (W : Width) (most : ℕ) (b : RawBurst) (k : ℕ) (worst : Response) (read : Stand) (word s : ℕ)
-    → first_refusal (width_bytes W) b ≡ 0 → stray (width_bytes W) (address_of b k) (last_of b k) s ≡ false
+    → IsLawful (width_bytes W) b → stray (width_bytes W) (address_of b k) (last_of b k) s ≡ false
     → (p : Stand) (v : Response) → worst_at p v ≡ v
     → shows (put_lanes xs (address_of b k / width_bytes W * width_bytes W) word s 8) (width_bytes W) most p v read
     ≡ with_write p v (written (shows xs (width_bytes W) most (busy b k) worst read) (address_of b k) (last_of b k) word s) (shows xs (width_bytes W) most (busy b k) worst read)

@@ -3,7 +3,7 @@ use Rattle.std.proofs.Common.{ltb-true, ◌<◌, ◌≡◌, ℕ, ◌≤◌, Bool
 use Rattle.std.proofs.lemmas.Bool.{cond-true, cond-false, true≢false, and_parts, and_from, eqb-true, eq-eqb, le-ltb}
 use Rattle.burst.specs.declared.raw.RawBurst.{RawBurst}
 use Rattle.burst.specs.Rules.{fault_at}
-use Rattle.burst.specs.Beats.{address_of, last_of, first_refusal}
+use Rattle.burst.specs.Beats.{address_of, last_of, first_refusal, IsLawful}
 use Rattle.slave.specs.declared.answer.Channel.{Channel}
 use Rattle.slave.specs.declared.answer.SlaveFault.{SlaveFault}
 use Rattle.slave.specs.declared.answer.SlaveFault.TheVariants.{Unlawful, Simple, Strobe, Dead, AlreadyOpen}
@@ -41,11 +41,11 @@ pub idle_is : (q : Stand) → is_idle q ≡ true → q ≡ idle
 idle_is idle h = refl
 idle_is (busy b k) h = absurd (true≢false (sym h))
 
-pub open_lawful : (w : ℕ) (p : Stand) (b : RawBurst) (k : ℕ) → sound_stand w p ≡ true → p ≡ busy b k → first_refusal w b ≡ 0
+pub open_lawful : (w : ℕ) (p : Stand) (b : RawBurst) (k : ℕ) → sound_stand w p ≡ true → p ≡ busy b k → IsLawful w b
 open_lawful w p b k h e = eqb-true (first_refusal w b) 0 (and_parts (ltb k b.count) (eqb (first_refusal w b) 0) (subst (λ q. sound_stand w q ≡ true) e h)).1
 
 -- a live slave takes a lawful INCR burst of at most its most beats at an idle channel
-admits : (w most : ℕ) (full : Bool) (b : RawBurst) → first_refusal w b ≡ 0 → too_much full most b ≡ false → admission w most full b ≡ Ok tt
+admits : (w most : ℕ) (full : Bool) (b : RawBurst) → IsLawful w b → too_much full most b ≡ false → admission w most full b ≡ Ok tt
 admits w most full b h t =
     ap (λ n. cond (eqb n 0) (cond (too_much full most b) (Err Simple) (Ok tt)) (Err (Unlawful (fault_at n)))) h
     ∙ ap (λ x. cond x (Err Simple) (Ok tt)) t
@@ -54,13 +54,13 @@ pub short_incr : (full : Bool) (most : ℕ) (b : RawBurst) → b.kind ≡ 1 → 
 short_incr true most b k l = refl
 short_incr false most b k l = ap (λ x. not (eqb x 1) || ltb most b.count) k ∙ le-ltb most b.count l
 
-opens : (m : Meaning) (ch : Channel) (b : RawBurst) → m.live ≡ true → stand_at m ch ≡ idle → first_refusal m.width b ≡ 0 → too_much m.full m.most b ≡ false → open_answer m ch b ≡ Ok tt
+opens : (m : Meaning) (ch : Channel) (b : RawBurst) → m.live ≡ true → stand_at m ch ≡ idle → IsLawful m.width b → too_much m.full m.most b ≡ false → open_answer m ch b ≡ Ok tt
 opens m ch b live free law fits =
     ap (λ l. cond l (cond (is_idle (stand_at m ch)) (admission m.width m.most m.full b) (Err AlreadyOpen)) (Err Dead)) live
     ∙ ap (λ p. cond (is_idle p) (admission m.width m.most m.full b) (Err AlreadyOpen)) free
     ∙ admits m.width m.most m.full b law fits
 
-pub open_taken : (m : Meaning) (ch : Channel) (b : RawBurst) → m.live ≡ true → stand_at m ch ≡ idle → first_refusal m.width b ≡ 0 → too_much m.full m.most b ≡ false
+pub open_taken : (m : Meaning) (ch : Channel) (b : RawBurst) → m.live ≡ true → stand_at m ch ≡ idle → IsLawful m.width b → too_much m.full m.most b ≡ false
     → (open_answer m ch b ≡ Ok tt) × (open_after m ch b ≡ opened ch b m)
 open_taken m ch b live free law fits =
     let e = opens m ch b live free law fits in

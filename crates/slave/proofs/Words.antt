@@ -1,10 +1,10 @@
 -- Words and the bytes in their lanes.
 use Rattle.std.proofs.Common.{◌≡◌, ℕ, ◌*◌, ◌%◌, ◌^◌, ◌<◌, ◌≤◌, false, not, ◌&&◌, sym, ap, ◌∙◌, arith, pow_mono}
 use native.Mathlib.Nat.{div-eq_of_lt}
-use Rattle.burst.specs.Beats.{covers, lane_address, lane_mask, bit, first_refusal, address_of, last_of}
+use Rattle.burst.specs.Beats.{covers, lane_address, lane_mask, bit, IsLawful, address_of, last_of}
 use Rattle.burst.proofs.Facts.{InWord, beat_in_word}
 use Rattle.burst.proofs.Masks.{below_8, none_below, mask_covers, lane_of}
-use Rattle.slave.specs.Meaning.{Meaning, plain, read_only, absent, unmapped, Sound}
+use Rattle.slave.specs.Meaning.{Meaning, board, plain, read_only, absent, unmapped, Sound}
 use Rattle.slave.specs.Lanes.{lane_byte, word_of, stray, shown, shown_of}
 use Rattle.burst.specs.declared.raw.RawBurst.{RawBurst}
 use Rattle.burst.specs.declared.raw.Width.TheVariants.{Eight}
@@ -31,7 +31,7 @@ lane_word f h i l =
     below_8 P (omega arith) (omega arith) (omega arith) (omega arith) (omega arith) (omega arith) (omega arith) (omega arith) i l
 
 -- what a read shows of a byte is a byte
-pub shown_small : (m : Meaning) → Sound m → (a : ℕ) → shown m a < 256
+pub shown_small : (m : Meaning) → Sound m → (a : ℕ) → shown (board m) a < 256
 shown_small m s a = elim (m.kinds a) as (λ k. shown_of k (m.bytes a) < 256) [ plain ↦ s.small a | read_only ↦ s.small a | absent ↦ omega arith | unmapped ↦ omega arith ]
 
 -- a strobe that keeps to its beat has bits only at covered addresses of the word
@@ -47,7 +47,7 @@ word_fits f h =
     omega arith
 
 -- a covered address is the one that its lane stands for
-pub covered_lane : (b : RawBurst) (j a : ℕ) → first_refusal 8 b ≡ 0 → address_of b j ≤ a → a ≤ last_of b j → lane_address 8 (address_of b j) (a % 8) ≡ a
+pub covered_lane : (b : RawBurst) (j a : ℕ) → IsLawful 8 b → address_of b j ≤ a → a ≤ last_of b j → lane_address 8 (address_of b j) (a % 8) ≡ a
 covered_lane b j a h lo hi =
     let p = lane_of 8 (address_of b j) (last_of b j) a (beat_in_word Eight b j h) lo hi in
     omega (arith, p.0, p.2)

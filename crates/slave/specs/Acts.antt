@@ -1,8 +1,8 @@
 -- What open, give and take answer, and the slave after each. A refused call leaves the slave as it was.
-use Rattle.std.specs.Prelude.{ℕ, ◌+◌, ◌-◌, Bool, true, false, cond, not, ◌&&◌, ◌||◌, Ok, Err, Result, ◌==◌, nat_lt}
+use Rattle.std.specs.Prelude.{ℕ, ◌+◌, ◌-◌, Bool, true, false, if◌then◌else◌, not, ◌&&◌, ◌||◌, Ok, Err, Result, ◌==◌, nat_lt}
 use Rattle.burst.specs.declared.raw.RawBurst.{RawBurst}
 use Rattle.burst.specs.Rules.{fault_number, fault_at}
-use Rattle.burst.specs.Beats.{raw_of, first_refusal, address_of, last_of}
+use Rattle.burst.specs.Beats.{raw_of, first_refusal, address_of, last_of, cover_of}
 use Rattle.slave.specs.declared.answer.Response.{Response}
 use Rattle.slave.specs.declared.answer.Response.TheVariants.{Okay}
 use Rattle.slave.specs.declared.answer.SlaveFault.{SlaveFault}
@@ -13,7 +13,7 @@ use Rattle.slave.specs.declared.answer.Step.{Step}
 use Rattle.slave.specs.declared.answer.Step.TheVariants.{Open as StepOpen, Beat}
 use Rattle.slave.specs.declared.answer.Given.{Given}
 use Rattle.slave.specs.declared.answer.Given.TheVariants.{More, Done}
-use Rattle.slave.specs.Meaning.{Meaning, Stand, idle, busy, with_read, with_write, stand_at, is_idle}
+use Rattle.slave.specs.Meaning.{Meaning, board, Stand, idle, busy, with_read, with_write, stand_at, is_idle}
 use Rattle.slave.specs.Lanes.{worse, stray, read_word, read_worst, write_worst, written}
 
 -- the number of a slave's refusal
@@ -32,12 +32,12 @@ too_much full most b = not full && (not (b.kind == 1) || nat_lt most b.count)
 -- whether an idle channel of a live slave takes a burst
 abbrev pub admission : ℕ → ℕ → Bool → RawBurst → Result (Unit {0}) SlaveFault
 admission w most full b =
-    cond (first_refusal w b == 0) (cond (too_much full most b) (Err Simple) (Ok tt)) (Err (Unlawful (fault_at (first_refusal w b))))
+    if first_refusal w b == 0 then (if too_much full most b then Err Simple else Ok tt) else Err (Unlawful (fault_at (first_refusal w b)))
 
 -- what open answers
 abbrev pub open_answer : Meaning → Channel → RawBurst → Result (Unit {0}) SlaveFault
 open_answer m ch b =
-    cond m.live (cond (is_idle (stand_at m ch)) (admission m.width m.most m.full b) (Err AlreadyOpen)) (Err Dead)
+    if m.live then (if is_idle (stand_at m ch) then admission m.width m.most m.full b else Err AlreadyOpen) else Err Dead
 
 -- the slave with a burst opened
 abbrev pub opened : Channel → RawBurst → Meaning → Meaning
@@ -71,7 +71,7 @@ beat_at true (busy b k) = Ok (b, k)
 
 -- where a channel stands after beat k
 abbrev pub past : RawBurst → ℕ → Stand
-past b k = cond (nat_lt (k + 1) b.count) (busy b (k + 1)) idle
+past b k = if nat_lt (k + 1) b.count then busy b (k + 1) else idle
 
 -- the beats left after beat k
 abbrev pub left : RawBurst → ℕ → ℕ
@@ -80,20 +80,30 @@ left b k = b.count - (k + 1)
 -- the beat that a give is for
 abbrev pub give_beat : Meaning → ℕ → Result (RawBurst × ℕ) SlaveFault
 give_beat m s =
-    then_ok (beat_at m.live m.write) (λ x. cond (stray m.width (address_of x.0 x.1) (last_of x.0 x.1) s) (Err Strobe) (Ok x))
+    then_ok (beat_at m.live m.write) (λ x. if stray m.width (address_of x.0 x.1) (last_of x.0 x.1) s then Err Strobe else Ok x)
 
 -- the worst response once beat k of b is given
 abbrev pub worst_after : Meaning → RawBurst → ℕ → ℕ → Response
-worst_after m b k s = worse m.worst (write_worst m (address_of b k) (last_of b k) s)
+worst_after m b k s = worse m.worst (write_worst (board m) m.width (cover_of b k) s)
+
+-- the response in a give's answer: OKAY while beats are left
+abbrev pub given_response : Given → Response
+given_response (More n) = Okay
+given_response (Done r) = r
+
+-- the beats left in a give's answer
+abbrev pub given_left : Given → ℕ
+given_left (More n) = n
+given_left (Done r) = 0
 
 -- what the give of beat k answers
 abbrev pub gave_answer : Meaning → RawBurst → ℕ → ℕ → Given
-gave_answer m b k s = cond (nat_lt (k + 1) b.count) (More (left b k)) (Done (worst_after m b k s))
+gave_answer m b k s = if nat_lt (k + 1) b.count then More (left b k) else Done (worst_after m b k s)
 
 -- the slave after the give of beat k
 abbrev pub gave_after : Meaning → RawBurst → ℕ → ℕ → ℕ → Meaning
 gave_after m b k w s =
-    with_write (past b k) (cond (nat_lt (k + 1) b.count) (worst_after m b k s) Okay) (written m (address_of b k) (last_of b k) w s) m
+    with_write (past b k) (if nat_lt (k + 1) b.count then worst_after m b k s else Okay) (written (board m) m.width (cover_of b k) w s) m
 
 -- what give answers
 abbrev pub give_answer : Meaning → ℕ → ℕ → Result Given SlaveFault
@@ -105,7 +115,7 @@ give_after m w s = on_ok (give_beat m s) m (λ x. gave_after m x.0 x.1 w s)
 
 -- the word, the response and the beats left of read beat k
 abbrev pub took_answer : Meaning → RawBurst → ℕ → ℕ × Response × ℕ
-took_answer m b k = (read_word m (address_of b k) (last_of b k), read_worst m (address_of b k) (last_of b k), left b k)
+took_answer m b k = (read_word (board m) m.width (cover_of b k), read_worst (board m) m.width (cover_of b k), left b k)
 
 -- what take answers
 abbrev pub take_answer : Meaning → Result (ℕ × Response × ℕ) SlaveFault
@@ -124,7 +134,7 @@ abbrev pub step_answer : Stand → Response → Step → Result Given SlaveFault
 step_answer idle r (StepOpen b) = Ok (More b.count)
 step_answer idle r (Beat x) = Err NotOpen
 step_answer (busy b k) r (StepOpen c) = Err AlreadyOpen
-step_answer (busy b k) r (Beat x) = Ok (cond (nat_lt (k + 1) b.count) (More (left b k)) (Done (worse r x)))
+step_answer (busy b k) r (Beat x) = Ok (if nat_lt (k + 1) b.count then More (left b k) else Done (worse r x))
 
 -- the last beat makes the channel idle
 abbrev pub step_place : Stand → Step → Stand
@@ -138,4 +148,4 @@ abbrev pub step_worst : Stand → Response → Step → Response
 step_worst idle r (StepOpen b) = Okay
 step_worst idle r (Beat x) = r
 step_worst (busy b k) r (StepOpen c) = r
-step_worst (busy b k) r (Beat x) = cond (nat_lt (k + 1) b.count) (worse r x) Okay
+step_worst (busy b k) r (Beat x) = if nat_lt (k + 1) b.count then worse r x else Okay

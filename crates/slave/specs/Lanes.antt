@@ -1,9 +1,10 @@
 -- Words by their lanes, responses, and what a beat reads and writes.
-use Rattle.std.specs.Prelude.{ℕ, zero, suc, ◌+◌, ◌*◌, ◌/◌, ◌%◌, ◌^◌, Bool, true, false, cond, not, ◌&&◌, nat_lt}
+use Rattle.std.specs.Prelude.{ℕ, zero, suc, ◌+◌, ◌*◌, ◌/◌, ◌%◌, ◌^◌, Bool, true, false, if◌then◌else◌, not, ◌&&◌, nat_lt}
+use Rattle.burst.specs.declared.raw.Cover.{Cover}
 use Rattle.burst.specs.Beats.{covers, lane_address, lane_mask, bit, any_below}
 use Rattle.slave.specs.declared.answer.Response.{Response}
 use Rattle.slave.specs.declared.answer.Response.TheVariants.{Okay, SlvErr, DecErr}
-use Rattle.slave.specs.Meaning.{ByteKind, plain, read_only, absent, unmapped, Meaning}
+use Rattle.slave.specs.Meaning.{ByteKind, plain, read_only, absent, unmapped, Board}
 
 -- the byte in lane i of a word
 abbrev pub lane_byte : ℕ → ℕ → ℕ
@@ -21,7 +22,7 @@ rank DecErr = 3
 
 -- the worse of two responses
 abbrev pub worse : Response → Response → Response
-worse a b = cond (nat_lt (rank a) (rank b)) b a
+worse a b = if nat_lt (rank a) (rank b) then b else a
 
 -- the worst response of the lanes below n
 unfoldable pub worst_lane : (ℕ → Response) → ℕ → Response
@@ -65,21 +66,24 @@ shown_of absent b = 0
 shown_of unmapped b = 0
 
 -- what a read shows of the byte at a
-abbrev pub shown : Meaning → ℕ → ℕ
-shown m a = shown_of (m.kinds a) (m.bytes a)
+abbrev pub shown : Board → ℕ → ℕ
+shown d a = shown_of (d.kinds a) (d.bytes a)
 
--- the word of the read beat that covers f to l: each covered byte in its lane, all other lanes 0
-abbrev pub read_word : Meaning → ℕ → ℕ → ℕ
-read_word m f l = word_of (λ i. cond (covers f l (lane_address m.width f i)) (shown m (lane_address m.width f i)) 0)
+-- the word of a read beat that covers c, on a bus of w bytes: each covered byte in its lane, all other lanes 0
+abbrev pub read_word : Board → ℕ → Cover → ℕ
+read_word d w c =
+    word_of (λ i. if covers c.first c.last (lane_address w c.first i) then shown d (lane_address w c.first i) else 0)
 
 -- its response, the worst over the covered bytes
-abbrev pub read_worst : Meaning → ℕ → ℕ → Response
-read_worst m f l = worst_lane (λ i. cond (covers f l (lane_address m.width f i)) (read_response (m.kinds (lane_address m.width f i))) Okay) 8
+abbrev pub read_worst : Board → ℕ → Cover → Response
+read_worst d w c =
+    worst_lane (λ i. if covers c.first c.last (lane_address w c.first i) then read_response (d.kinds (lane_address w c.first i)) else Okay) 8
 
--- the response of the write beat that covers f to l, the worst over the strobed bytes
-abbrev pub write_worst : Meaning → ℕ → ℕ → ℕ → Response
-write_worst m f l s = worst_lane (λ i. cond (bit s i) (write_response (m.kinds (lane_address m.width f i))) Okay) 8
+-- the response of a write beat that covers c with the strobe s, the worst over the strobed bytes
+abbrev pub write_worst : Board → ℕ → Cover → ℕ → Response
+write_worst d w c s = worst_lane (λ i. if bit s i then write_response (d.kinds (lane_address w c.first i)) else Okay) 8
 
--- the bytes after it: each strobed byte at a plain address takes its lane's byte
-abbrev pub written : Meaning → ℕ → ℕ → ℕ → ℕ → (ℕ → ℕ)
-written m f l w s = λ a. cond ((covers f l a && bit s (a % m.width)) && is_plain (m.kinds a)) (lane_byte w (a % m.width)) (m.bytes a)
+-- the bytes after it: each strobed byte at a plain address takes its lane's byte of the word
+abbrev pub written : Board → ℕ → Cover → ℕ → ℕ → (ℕ → ℕ)
+written d w c word s = λ a.
+    if (covers c.first c.last a && bit s (a % w)) && is_plain (d.kinds a) then lane_byte word (a % w) else d.bytes a

@@ -3,5 +3,6 @@ pub mod Meaning
 pub mod Lanes
 pub mod Acts
 pub mod Making
-pub mod Made
 pub mod Channels
+pub mod Snapshots
+pub mod Sound

@@ -15,6 +15,11 @@ pub data ByteKind : Type 0 where
   absent : ByteKind
   unmapped : ByteKind
 
+-- the byte and the kind of every address
+pub record Board : Type 0 where
+  pub bytes : ℕ → ℕ
+  pub kinds : ℕ → ByteKind
+
 -- where a channel stands: idle, or the open burst with the number of beats taken
 pub data Stand : Type 0 where
   idle : Stand
@@ -32,17 +37,21 @@ pub record Meaning : Type 0 where
   pub worst : Response
   pub read : Stand
 
+-- what a slave shows of its bytes
+abbrev pub board : Meaning → Board
+board m = record { bytes = m.bytes; kinds = m.kinds }
+
 -- every dead slave shows this
 abbrev pub dead : Meaning
 dead = record { live = false; width = 8; most = 256; full = true; bytes = λ _. 0; kinds = λ _. unmapped; write = idle; worst = Okay; read = idle }
 
 -- the slave with its read channel standing elsewhere
 abbrev pub with_read : Stand → Meaning → Meaning
-with_read p m = record { live = m.live; width = m.width; most = m.most; full = m.full; bytes = m.bytes; kinds = m.kinds; write = m.write; worst = m.worst; read = p }
+with_read p m = record m { read = p }
 
 -- the slave with its write channel standing elsewhere, another worst response and other bytes
 abbrev pub with_write : Stand → Response → (ℕ → ℕ) → Meaning → Meaning
-with_write p r f m = record { live = m.live; width = m.width; most = m.most; full = m.full; bytes = f; kinds = m.kinds; write = p; worst = r; read = m.read }
+with_write p r f m = record m { write = p; worst = r; bytes = f }
 
 -- where a channel stands
 abbrev pub stand_at : Meaning → Channel → Stand
@@ -67,6 +76,11 @@ same_burst b c = (b.kind == c.kind && b.start == c.start) && (b.size == c.size &
 abbrev pub is_at : RawBurst → ℕ → Stand → Bool
 is_at b k idle = false
 is_at b k (busy c i) = same_burst b c && k == i
+
+-- two channels stand alike
+abbrev pub same_stand : Stand → Stand → Bool
+same_stand idle q = is_idle q
+same_stand (busy b k) q = is_at b k q
 
 -- an open burst is lawful for the width, and a beat of it is left
 abbrev pub sound_stand : ℕ → Stand → Bool

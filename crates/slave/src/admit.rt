@@ -1,6 +1,6 @@
 // Which bursts a slave takes at an idle channel.
 ghost use Rattle.burst.specs.Rules.{width_bytes};
-ghost use Rattle.burst.specs.Beats.{raw_of, first_refusal};
+ghost use Rattle.burst.specs.Beats.{raw_of, IsLawful};
 ghost use Rattle.slave.specs.Acts.{admission, bare};
 ghost use Rattle.std.specs.Prelude.{◌≡◌, IfOk, OnOk};
 
@@ -11,7 +11,7 @@ use burst::{Burst, BurstKind, RawBurst, Width};
 pub fn admitted(raw: RawBurst, width: Width, most: u16, full: bool) -> Result<Burst, SlaveFault>
     ensures answer { bare result ≡ admission (width_bytes width) most full raw }
     ensures same { IfOk result (λ b. raw_of b ≡ raw) }
-    ensures lawful { OnOk result (first_refusal (width_bytes width) raw ≡ 0) }
+    ensures lawful { OnOk result (IsLawful (width_bytes width) raw) }
 {
     let burst = burst::check(raw, width)?;
     if !full && (burst.kind != BurstKind::Incr || raw.count > most) {

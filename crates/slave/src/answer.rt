@@ -1,4 +1,7 @@
 // What a slave answers, and where its channels stand.
+ghost use Rattle.slave.specs.Acts.{given_response, given_left};
+ghost use Rattle.std.specs.Prelude.{◌≡◌};
+
 use burst::{Burst, BurstFault};
 
 // How a beat went, by its number on the bus; a larger one is worse.
@@ -50,8 +53,8 @@ pub struct Channels {
     pub read: ChannelState,
 }
 
-// What a call does to a channel: it opens a burst, or takes a beat that went so. That a channel's place is matched
-// together with the call is a rule of the project, so the call is a value and not a closure.
+// What a call does to a channel: it opens a burst, or takes a beat that went so. The place is matched together with the call,
+// so that no pair of the two is forgotten: the call is a value and not a closure.
 #[derive(Clone, Copy)]
 pub enum Step {
     Open(Burst),
@@ -64,4 +67,26 @@ pub enum Step {
 pub enum Given {
     More(u16),
     Done(Response),
+}
+
+impl Given {
+    // The response that the beat adds to what holds it: OKAY while beats are left, since only the last one answers.
+    pub fn response(self) -> Response
+        ensures { result ≡ given_response self }
+    {
+        match self {
+            Given::More(_) => Response::Okay,
+            Given::Done(response) => response,
+        }
+    }
+
+    // The beats left.
+    pub fn left(self) -> u16
+        ensures { result ≡ given_left self }
+    {
+        match self {
+            Given::More(left) => left,
+            Given::Done(_) => 0,
+        }
+    }
 }

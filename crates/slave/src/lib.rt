@@ -10,6 +10,7 @@ mod making;
 mod numbers;
 mod open;
 mod place;
+mod snapshot;
 
 pub use admit::admitted;
 pub use answer::{
@@ -18,3 +19,4 @@ pub use answer::{
 pub use interface::Slave;
 pub use lanes::{lane_byte, strays, worst_of};
 pub use making::{Made, MakeFault, check_below, is_ready, width_of};
+pub use snapshot::Snapshot;

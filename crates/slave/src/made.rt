@@ -1,6 +1,6 @@
 // What a making answers is a slave: a dead one where it was refused.
-ghost use Rattle.slave.specs.Made.{made};
-ghost use Rattle.slave.specs.Made.{made_sound};
+ghost use Rattle.slave.specs.Making.{made};
+ghost use Rattle.slave.specs.Sound.{made_sound};
 ghost use Rattle.std.specs.Prelude.{◌≡◌};
 
 use crate::answer::{Channel, Given, Place, Response, SlaveFault};

@@ -2,7 +2,7 @@
 use Rattle.std.proofs.Common.{◌≡◌, ℕ, ◌+◌, Bool, true, false, cond, ltb, Option, Some, None, Ok, Err, is_ok, sym, refl, ap, ◌∙◌, subst, ⊎_elim}
 use Rattle.std.proofs.lemmas.Bool.{cases_Bool, le-ltb, ltb-false}
 use Rattle.burst.specs.declared.raw.RawBurst.{RawBurst}
-use Rattle.burst.specs.Beats.{first_refusal, address_of, last_of, raw_of}
+use Rattle.burst.specs.Beats.{IsLawful, address_of, last_of, raw_of}
 use Rattle.slave.specs.declared.answer.Response.{Response}
 use Rattle.slave.specs.declared.answer.Response.TheVariants.{Okay}
 use Rattle.slave.specs.declared.answer.SlaveFault.{SlaveFault}
@@ -48,7 +48,7 @@ done_joined t true k kept here v h = refl
 done_joined t false k kept here v h = ap (λ t. Done (worse kept (cond t Okay (worse here v)))) (h refl) ∙ ap Done (worse_assoc kept here v)
 
 -- giving beat j
-module _ (M : ℕ) (b : RawBurst) (j : ℕ) (kept : Response) (r : Stand) (m : Meaning) (w s : ℕ) (sound : Sound m) (law8 : first_refusal 8 b ≡ 0) (fit : fits M (busy b j) r m ≡ true) where
+module _ (M : ℕ) (b : RawBurst) (j : ℕ) (kept : Response) (r : Stand) (m : Meaning) (w s : ℕ) (sound : Sound m) (law8 : IsLawful 8 b) (fit : fits M (busy b j) r m ≡ true) where
   abbrev run : RawBurst
   run = run_of M b j
 

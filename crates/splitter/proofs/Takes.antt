@@ -2,7 +2,7 @@
 use Rattle.std.proofs.Common.{◌≡◌, ℕ, ◌+◌, true, cond, ltb, Option, Some, None, Ok, Err, refl, ap, ◌∙◌, arith}
 use Rattle.std.proofs.lemmas.Bool.Decides.{nat_tests}
 use Rattle.burst.specs.declared.raw.RawBurst.{RawBurst}
-use Rattle.burst.specs.Beats.{first_refusal, address_of, last_of, raw_of}
+use Rattle.burst.specs.Beats.{IsLawful, address_of, last_of, raw_of}
 use Rattle.slave.specs.declared.answer.Response.{Response}
 use Rattle.slave.specs.declared.answer.SlaveFault.{SlaveFault}
 use Rattle.slave.specs.declared.answer.SlaveFault.TheVariants.{NotOpen}
@@ -31,7 +31,7 @@ left_is : (b : RawBurst) (j : ℕ) (v : Response) → beats_left (cond (ltb (j +
 left_is b j v = grind (arith, nat_tests)
 
 -- taking beat j
-take_takes : (M : ℕ) (w : Stand) (kept : Response) (b : RawBurst) (j : ℕ) (m : Meaning) → Sound m → first_refusal 8 b ≡ 0 → fits M w (busy b j) m ≡ true
+take_takes : (M : ℕ) (w : Stand) (kept : Response) (b : RawBurst) (j : ℕ) (m : Meaning) → Sound m → IsLawful 8 b → fits M w (busy b j) m ≡ true
     → (word : ℕ) (resp : Response) (lf : ℕ) (v y : Response) → Ok (word, resp, lf) ≡ take_answer m → (given : Given) → Ok given ≡ step_answer (busy b j) v (Beat y)
     → (Ok (word, resp, beats_left given) ≡ take_answer (split_shows w kept (busy b j) m))
     × (split_shows w kept (past b j) (follow_after M Read (past b j) (take_after m)) ≡ take_after (split_shows w kept (busy b j) m))

@@ -6,7 +6,7 @@ use Rattle.std.proofs.Math.Path.{ap}
 use Rattle.std.proofs.Math.Logic.{⊎_elim}
 use Rattle.std.proofs.lemmas.Bool.{cases_lt, lt-ltb, le-ltb}
 use Rattle.burst.specs.declared.raw.RawBurst.{RawBurst}
-use Rattle.burst.specs.Beats.{first_refusal, address_of, last_of}
+use Rattle.burst.specs.Beats.{IsLawful, address_of, last_of}
 use Rattle.slave.proofs.Calls.{short_incr, open_taken}
 use Rattle.splitter.specs.Runs.{part_first, part_end, run_first, run_of, beat_in, runs_from, runs, beats_from, beats, joined}
 use Rattle.splitter.specs.Laws.{RunStands, RunsStand, WorkedSplit}
@@ -41,7 +41,7 @@ size_same : (M : ℕ) (b : RawBurst) (j : ℕ) → (run_of M b j).size ≡ b.siz
 unfolding run_of
 size_same M b j = refl
 
-module _ (M : ℕ) (b : RawBurst) (lawful : first_refusal 8 b ≡ 0) (some : 0 < M) where
+module _ (M : ℕ) (b : RawBurst) (lawful : IsLawful 8 b) (some : 0 < M) where
   -- the beats of the run that begins at beat j
   pub record Within (j i : ℕ) : Type 0 where
     pub left : j + i < b.count
@@ -106,7 +106,7 @@ incr_is : (M : ℕ) (b : RawBurst) (j : ℕ) → (run_of M b j).kind ≡ 1
 unfolding run_of
 incr_is M b j = refl
 
-pub run_stands : (M : ℕ) (b : RawBurst) (j : ℕ) → first_refusal 8 b ≡ 0 → 0 < M → j < b.count → RunStands M b j
+pub run_stands : (M : ℕ) (b : RawBurst) (j : ℕ) → IsLawful 8 b → 0 < M → j < b.count → RunStands M b j
 run_stands M b j law some left = record {
   incr = incr_is M b j;
   some = omega (arith, run_has M b j law some left);
@@ -119,5 +119,5 @@ run_stands M b j law some left = record {
       (short_incr m.full m.most (run_of M b j) (incr_is M b j) (omega (arith, run_short M b j law some left)))).0;
 }
 
-pub runs_stand : (M : ℕ) (b : RawBurst) → first_refusal 8 b ≡ 0 → 0 < M → RunsStand M b
+pub runs_stand : (M : ℕ) (b : RawBurst) → IsLawful 8 b → 0 < M → RunsStand M b
 runs_stand M b law some = record { join = runs_join M b law some; run = λ j left. run_stands M b j law some left }

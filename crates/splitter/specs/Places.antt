@@ -4,7 +4,7 @@ use Rattle.std.proofs.Common.{arith, sym, ◌∙◌, ap, subst, ⊎_elim}
 use Rattle.std.proofs.lemmas.Bool.{cases_Bool, cases_lt, lt-ltb, le-ltb, and_parts}
 use Rattle.std.proofs.lemmas.Bool.Decides.{nat_tests}
 use Rattle.burst.specs.declared.raw.RawBurst.{RawBurst}
-use Rattle.burst.specs.Beats.{first_refusal}
+use Rattle.burst.specs.Beats.{IsLawful}
 use Rattle.burst.proofs.Facts.{size_fits, narrower}
 use Rattle.slave.specs.declared.answer.Response.TheVariants.{Okay}
 use Rattle.slave.specs.declared.answer.Channel.{Channel}
@@ -61,7 +61,7 @@ pub fits_from : (M : ℕ) (w r : Stand) (m : Meaning) → m.live ≡ true → nu
 fits_from M w r m l n a b = cc
 
 -- an open burst is lawful for the width, since a run of it stands open below
-pub lawful_here : (M : ℕ) (b : RawBurst) (j w : ℕ) (q : Stand) → first_refusal 8 b ≡ 0 → on_place M (busy b j) q ≡ true → sound_stand w q ≡ true → first_refusal w b ≡ 0
+pub lawful_here : (M : ℕ) (b : RawBurst) (j w : ℕ) (q : Stand) → IsLawful 8 b → on_place M (busy b j) q ≡ true → sound_stand w q ≡ true → IsLawful w b
 unfolding run_of
 lawful_here M b j w q law h s =
     let p = below_at M b j q h in
@@ -100,8 +100,8 @@ stood : (M : ℕ) (ch : Channel) (p : Stand) (m : Meaning) → on_place M p (sta
 stood M ch p m h = record { stand = stand_at m ch; on = h; after = stays M ch p m h ∙ placed_self ch m }
 
 -- the first run of a burst, and each run after another, is opened
-pub starts : (M : ℕ) (ch : Channel) (b : RawBurst) (j : ℕ) (m : Meaning) → first_refusal 8 b ≡ 0 → 0 < M → M ≤ m.most → j < b.count → beat_in M b j ≡ 0
-    → m.live ≡ true → Quiet m → stand_at m ch ≡ idle → first_refusal m.width b ≡ 0 → Followed M ch (busy b j) m
+pub starts : (M : ℕ) (ch : Channel) (b : RawBurst) (j : ℕ) (m : Meaning) → IsLawful 8 b → 0 < M → M ≤ m.most → j < b.count → beat_in M b j ≡ 0
+    → m.live ≡ true → Quiet m → stand_at m ch ≡ idle → IsLawful m.width b → Followed M ch (busy b j) m
 starts M ch b j m law some most left zero live quiet free fit =
     let run = run_of M b j in
     let taken = (run_stands M b j law some left).taken m ch live free fit most in
@@ -112,8 +112,8 @@ starts M ch b j m law some most left zero live quiet free fit =
     }
 
 -- after beat j the slave below follows to beat j + 1, or both are idle
-pub goes_on : (M : ℕ) (ch : Channel) (b : RawBurst) (j : ℕ) (m : Meaning) → first_refusal 8 b ≡ 0 → 0 < M → M ≤ m.most → j < b.count
-    → m.live ≡ true → Quiet m → stand_at m ch ≡ past (run_of M b j) (beat_in M b j) → first_refusal m.width b ≡ 0 → Followed M ch (past b j) m
+pub goes_on : (M : ℕ) (ch : Channel) (b : RawBurst) (j : ℕ) (m : Meaning) → IsLawful 8 b → 0 < M → M ≤ m.most → j < b.count
+    → m.live ≡ true → Quiet m → stand_at m ch ≡ past (run_of M b j) (beat_in M b j) → IsLawful m.width b → Followed M ch (past b j) m
 goes_on M ch b j m law some most left live quiet at fit =
     let run = run_of M b j in
     let i = beat_in M b j in

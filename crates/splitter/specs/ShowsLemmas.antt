@@ -6,7 +6,7 @@ use Rattle.std.proofs.lemmas.Bool.Decides.{nat_tests}
 use Rattle.std.proofs.Math.Bool.{Bool-set}
 use mathlib.Core.HLevel.{is_prop→PathP}
 use Rattle.burst.specs.declared.checked.Burst.{Burst}
-use Rattle.burst.specs.Beats.{first_refusal, raw_of}
+use Rattle.burst.specs.Beats.{IsLawful, raw_of}
 use Rattle.burst.proofs.Facts.{facts}
 use Rattle.slave.specs.declared.answer.Response.{Response}
 use Rattle.slave.specs.declared.answer.Response.TheVariants.{Okay}
@@ -83,13 +83,13 @@ module _ (M : ℕ) (c : Channels) (m : Meaning) (b : Burst) (sound : Sound m) (f
   abbrev r : Stand
   r = told c.read.place
 
-  first_run : (ch : Channel) → stand_at m ch ≡ idle → first_refusal m.width (raw_of b) ≡ 0 → Followed M ch (busy (raw_of b) 0) m
+  first_run : (ch : Channel) → stand_at m ch ≡ idle → IsLawful m.width (raw_of b) → Followed M ch (busy (raw_of b) 0) m
   first_run ch free law =
       let f = fitting M w r m fit in
       let some = (facts (raw_of b).kind (raw_of b).start (raw_of b).size (raw_of b).count b.lawful).low in
       starts M ch (raw_of b) 0 m b.lawful f.some f.most some (omega (arith, run_base M (raw_of b) 0 b.lawful f.some some)) f.live sound.quiet free law
 
-  open_write : w ≡ idle → first_refusal m.width (raw_of b) ≡ 0
+  open_write : w ≡ idle → IsLawful m.width (raw_of b)
       → (split_shows (busy (raw_of b) 0) Okay r (follow_after M Write (busy (raw_of b) 0) m) ≡ opened Write (raw_of b) (splits c m))
       × (fits M (busy (raw_of b) 0) r (follow_after M Write (busy (raw_of b) 0) m) ≡ true)
   open_write own law =
@@ -102,7 +102,7 @@ module _ (M : ℕ) (c : Channels) (m : Meaning) (b : Burst) (sound : Sound m) (f
         ap (fits M (busy (raw_of b) 0) r) go.after ∙ fits_from M (busy (raw_of b) 0) r n f.live f.number go.on f.read,
       )
 
-  open_read : r ≡ idle → first_refusal m.width (raw_of b) ≡ 0
+  open_read : r ≡ idle → IsLawful m.width (raw_of b)
       → (split_shows w kept (busy (raw_of b) 0) (follow_after M Read (busy (raw_of b) 0) m) ≡ opened Read (raw_of b) (splits c m))
       × (fits M w (busy (raw_of b) 0) (follow_after M Read (busy (raw_of b) 0) m) ≡ true)
   open_read own law =
@@ -116,7 +116,7 @@ module _ (M : ℕ) (c : Channels) (m : Meaning) (b : Burst) (sound : Sound m) (f
       )
 
   -- the record d after the step, and the slave below after it followed
-  pub opens : (ch : Channel) (d : Channels) → is_idle (stand_at (splits c m) ch) ≡ true → first_refusal m.width (raw_of b) ≡ 0
+  pub opens : (ch : Channel) (d : Channels) → is_idle (stand_at (splits c m) ch) ≡ true → IsLawful m.width (raw_of b)
       → told (state_at ch d).place ≡ step_place (told (state_at ch c).place) (Open b) → (state_at ch d).worst ≡ step_worst (told (state_at ch c).place) (state_at ch c).worst (Open b)
       → state_at (other ch) d ≡ state_at (other ch) c
       → (splits d (follow_after M ch (told (state_at ch d).place) m) ≡ opened ch (raw_of b) (splits c m)) × (stands M d (follow_after M ch (told (state_at ch d).place) m) ≡ true)

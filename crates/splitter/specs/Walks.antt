@@ -9,7 +9,7 @@ use Rattle.std.proofs.Math.Arith.{digits_div}
 use Rattle.std.proofs.lemmas.Nat.{div-add-mod', mod_below, pow_pos}
 use Rattle.std.proofs.lemmas.Bool.{cases_lt, cases_eq, lt-ltb, le-ltb}
 use Rattle.burst.specs.declared.raw.RawBurst.{RawBurst}
-use Rattle.burst.specs.Beats.{first_refusal, address_of, last_of, incr_address, wrap_address}
+use Rattle.burst.specs.Beats.{IsLawful, address_of, last_of, incr_address, wrap_address}
 use Rattle.burst.proofs.Facts.{Facts, facts, round_power, size_fits, incr_lawful}
 use Rattle.burst.proofs.Walks.{incr_incr, incr_page, aligned_incr, low_aligned, wrap_first, wrap_second, first_page, second_page}
 use Rattle.splitter.specs.Runs.{turn, part_of, part_first, part_end, run_first, run_of, beat_in}
@@ -27,7 +27,7 @@ pub record Part (b : RawBurst) (j F S : ℕ) : Type 0 where
 at_kind : {A : Type 0} (k : ℕ) (x y z : A) → (k ≡ 0 → cond (k == 0) x (cond (k == 1) y z) ≡ x) × (k ≡ 1 → cond (k == 0) x (cond (k == 1) y z) ≡ y) × (k ≡ 2 → cond (k == 0) x (cond (k == 1) y z) ≡ z)
 at_kind k x y z = (λ e. cc, λ e. cc, λ e. cc)
 
-module _ (b : RawBurst) (lawful : first_refusal 8 b ≡ 0) where
+module _ (b : RawBurst) (lawful : IsLawful 8 b) where
   abbrev N : ℕ
   N = 2 ^ b.size
 
@@ -121,7 +121,7 @@ module _ (b : RawBurst) (lawful : first_refusal 8 b ≡ 0) where
       (cases_eq b.kind 1)) (cases_eq b.kind 0)
 
 -- the run of beat j
-module _ (M : ℕ) (b : RawBurst) (j : ℕ) (lawful : first_refusal 8 b ≡ 0) (some : 0 < M) (left : j < b.count) where
+module _ (M : ℕ) (b : RawBurst) (j : ℕ) (lawful : IsLawful 8 b) (some : 0 < M) (left : j < b.count) where
   abbrev F : ℕ
   F = part_first b j
 
@@ -199,7 +199,7 @@ module _ (M : ℕ) (b : RawBurst) (j : ℕ) (lawful : first_refusal 8 b ≡ 0) (
       (incr_page (address_of b F) (2 ^ b.size) x (run_of M b j).count (S - F) (pow_pos b.size) P.page (omega arith) (omega (arith, run_has)))
 
   -- it is lawful wherever the burst is
-  pub run_lawful : (w : ℕ) → first_refusal w b ≡ 0 → first_refusal w (run_of M b j) ≡ 0
+  pub run_lawful : (w : ℕ) → IsLawful w b → IsLawful w (run_of M b j)
   unfolding run_of
   run_lawful w h =
       let fit : 2 ^ b.size ≤ w = size_fits w b.kind b.start b.size b.count h in

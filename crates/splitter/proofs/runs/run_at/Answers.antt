@@ -1,7 +1,7 @@
 use Rattle.std.proofs.Common.{◌≡◌, ℕ, ◌-◌, ◌%◌, ◌<◌, min, cond, Some, None, sym, ap, ◌∙◌, arith}
 use Rattle.std.proofs.lemmas.Bool.{lt-ltb}
 use Rattle.burst.specs.declared.raw.RawBurst.{RawBurst}
-use Rattle.burst.specs.Beats.{raw_of, first_refusal, address_of, address_answer}
+use Rattle.burst.specs.Beats.{raw_of, IsLawful, address_of, address_answer}
 use Rattle.splitter.specs.Runs.{part_first, part_end, run_first, run_of, beat_in, run_answer}
 use Rattle.splitter.specs.Walks.{beat_is, run_base, base_le}
 use Rattle.splitter.specs.Places.{run_told}
@@ -9,7 +9,7 @@ use Rattle.splitter.specs.Joined.{runs_stand, worked}
 use Rattle.splitter.proofs.runs.run_at.Goals as goal
 
 -- the run as the code makes it
-ran : (M : ℕ) (b : RawBurst) (j first end beat start : ℕ) → first_refusal 8 b ≡ 0 → 0 < M → j < b.count → first ≡ part_first b j → end ≡ part_end b j
+ran : (M : ℕ) (b : RawBurst) (j first end beat start : ℕ) → IsLawful 8 b → 0 < M → j < b.count → first ≡ part_first b j → end ≡ part_end b j
     → beat ≡ (j - first) % M → Some start ≡ address_answer b (j - beat)
     → Some (record { kind = 1; start = start; size = b.size; count = min M (end - (j - beat)) }, beat) ≡ run_answer M b j
 unfolding run_of

@@ -1,0 +1,20 @@
+-- What a slave answers to its questions, kept beside it.
+use Rattle.std.specs.Prelude.{Bool, Option, ◌&&◌, ◌==◌}
+use Rattle.std.specs.Bool.{beq}
+use Rattle.burst.specs.Rules.{width_bytes}
+use Rattle.slave.specs.declared.answer.Channel.{Channel}
+use Rattle.slave.specs.declared.answer.Channel.TheVariants.{Write, Read}
+use Rattle.slave.specs.declared.answer.OpenBurst.{OpenBurst}
+use Rattle.slave.specs.declared.snapshot.Snapshot.{Snapshot}
+use Rattle.slave.specs.Meaning.{Meaning, told, same_stand}
+
+-- these are the answers of a live slave that shows m
+abbrev pub answers_for : Snapshot → Meaning → Bool
+answers_for s m =
+    (m.live && (width_bytes s.width == m.width && (s.most == m.most && beq s.full m.full)))
+    && (same_stand (told s.write) m.write && same_stand (told s.read) m.read)
+
+-- the answer where a channel stands
+abbrev pub place_at : Snapshot → Channel → Option OpenBurst
+place_at s Write = s.write
+place_at s Read = s.read
