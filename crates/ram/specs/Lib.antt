@@ -2,5 +2,4 @@
 pub mod Memory
 pub mod Making
 pub mod Shows
-pub mod Beats
-pub mod Stores
+pub mod Sound

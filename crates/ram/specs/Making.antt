@@ -1,5 +1,5 @@
 -- Which memory may be made a slave.
-use Rattle.std.specs.Prelude.{ℕ, ◌%◌, Bool, cond, ◌&&◌, ◌==◌, nat_le}
+use Rattle.std.specs.Prelude.{ℕ, ◌%◌, Bool, if◌then◌else◌, ◌&&◌, ◌==◌, nat_le}
 use Rattle.slave.specs.Making.{is_width}
 
 -- a most is 1 to 256 beats
@@ -12,4 +12,4 @@ is_memory n = (n % 4096 == 0 && nat_le 4096 n) && nat_le n 1048576
 
 -- the number of the first rule that the width, the most and the memory's length break, or 0
 abbrev pub make_refusal : ℕ → ℕ → ℕ → ℕ
-make_refusal w most n = cond (is_width w && is_most most) (cond (is_memory n) 0 17) 16
+make_refusal w most n = if is_width w && is_most most then (if is_memory n then 0 else 17) else 16

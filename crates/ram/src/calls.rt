@@ -1,40 +1,10 @@
-// Memory and its calls as a slave.
-ghost use Rattle.ram.specs.Making.{make_refusal};
-ghost use Rattle.ram.specs.Shows.{ram_meaning, ram_made};
-ghost use Rattle.slave.specs.Made.{made};
-ghost use Rattle.slave.specs.Making.{answered};
-ghost use Rattle.std.specs.Prelude.{◌≡◌, IfOk, length};
-ghost use Rattle.ram.specs.Beats.{ram_sound};
+// The calls of memory as a slave.
+ghost use Rattle.ram.specs.Shows.{ram_meaning};
+ghost use Rattle.ram.specs.Sound.{ram_sound};
 
-use crate::port::Port;
+use crate::ram::Ram;
 use burst::{RawBurst, Width};
-use slave::{Channel, Given, MakeFault, Place, Response, Slave, SlaveFault};
-
-// Memory as a simple slave: its bytes are plain, all others unmapped.
-#[derive(Drop)]
-pub struct Ram {
-    memory: Vec<u8>,
-    port: Port,
-}
-
-impl Ram {
-    // Memory as a slave, or the first rule that the numbers break.
-    pub fn new(memory: Vec<u8>, width: u8, most: u16) -> Result<Ram, MakeFault>
-        ensures answer { answered result ≡ make_refusal width most (length memory.items) }
-        ensures shown { made ram_meaning result ≡ ram_made memory.items width most }
-        ensures memory { IfOk result (λ ram. ram.memory ≡ memory) }
-    {
-        let port = Port::new(width, most, memory.len())?;
-        Ok(Ram { memory, port })
-    }
-
-    // The memory itself, which the slave then stands over no longer.
-    pub fn into_memory(self) -> Vec<u8>
-        ensures { result ≡ self.memory }
-    {
-        self.memory
-    }
-}
+use slave::{Channel, Given, Place, Response, Slave, SlaveFault};
 
 impl Slave for Ram {
     ghost meaning = { ram_meaning };

@@ -5,9 +5,10 @@ mod calls;
 mod making;
 mod memory;
 mod port;
+mod ram;
 
-pub use calls::Ram;
 pub use making::check;
+pub use ram::Ram;
 
 #[cfg(test)]
 mod tests {

@@ -1,9 +1,9 @@
 // Loads and stores of words of a bus.
-ghost use Rattle.std.specs.Prelude.{◌≡◌, ◌<◌, if◌then◌else◌, slice_index, slice_set, ◌%◌, ◌*◌, ◌/◌};
-ghost use Rattle.burst.specs.Beats.{covers, lane_address, bit};
+ghost use Rattle.std.specs.Prelude.{◌≡◌, if◌then◌else◌, slice_set, ◌*◌, ◌/◌};
+ghost use Rattle.burst.specs.Beats.{covers};
 ghost use Rattle.burst.specs.Rules.{width_bytes};
-ghost use Rattle.ram.specs.Memory.{put_lanes, kind_at, loaded, loaded_worst};
-ghost use Rattle.slave.specs.Lanes.{lane_byte, worst_lane, write_response, read_response, shown_of};
+ghost use Rattle.ram.specs.Memory.{put_lanes, kind_at, memory_board};
+ghost use Rattle.slave.specs.Lanes.{write_response, read_response, shown, read_word, read_worst, write_worst};
 ghost use Rattle.slave.specs.declared.answer.Response.TheVariants.{Okay};
 
 use burst::{Cover, LANES, Width};
@@ -23,20 +23,20 @@ fn store(mem: &mut [u8], address: u64, b: u8) -> Response
     Response::Okay
 }
 
-// Stores the strobed lanes of the word that the byte at `first` lies in.
+// Stores the strobed lanes of the word that a beat lies in.
 // A loop, since each lane writes, and `worst_of` calls a closure that writes nothing.
-#[tactic(auto, using(crate::specs::Stores::put_more, slave::proofs::Worst::worst_more))]
+#[tactic(auto, using(crate::proofs::Stores::put_more, slave::proofs::Worst::worst_more))]
 pub(crate) fn store_word(
     mem: &mut [u8],
-    first: u32,
+    cover: Cover,
     width: Width,
     word: u64,
     strobe: u8,
 ) -> Response
-    ensures value { result ≡ worst_lane (λ i. (if bit strobe i then write_response (kind_at mem.old (lane_address (width_bytes width) first i)) else Okay)) 8 }
-    ensures after { mem.new ≡ put_lanes mem.old (first / width_bytes width * width_bytes width) word strobe 8 }
+    ensures value { result ≡ write_worst (memory_board mem.old) (width_bytes width) cover strobe }
+    ensures after { mem.new ≡ put_lanes mem.old (cover.first / width_bytes width * width_bytes width) word strobe 8 }
 {
-    let base = u64::from(width.word_start(first));
+    let base = u64::from(width.word_start(cover.first));
     let mut worst = Response::Okay;
     for i in 0..LANES {
         if burst::strobed(strobe, i) {
@@ -49,7 +49,7 @@ pub(crate) fn store_word(
 
 // The byte at an address that a beat covers, else 0.
 fn fetch(mem: &[u8], cover: Cover, address: u64) -> u8
-    ensures { result ≡ (if covers cover.first cover.last address then shown_of (kind_at mem.now address) (slice_index mem.now address % 256) else 0) }
+    ensures { result ≡ (if covers cover.first cover.last address then shown (memory_board mem.now) address else 0) }
 {
     if !cover.contains(address) {
         return 0;
@@ -70,7 +70,7 @@ fn fetched(mem: &[u8], cover: Cover, address: u64) -> Response
 
 // The covered bytes, each in its lane.
 pub(crate) fn load_word(mem: &[u8], cover: Cover, width: Width) -> u64
-    ensures { result ≡ loaded mem.now (width_bytes width) cover.first cover.last }
+    ensures { result ≡ read_word (memory_board mem.now) (width_bytes width) cover }
 {
     let base = u64::from(width.word_start(cover.first));
     u64::from_le_bytes(std::array::from_fn(|i| fetch(mem, cover, base + i as u64)))
@@ -78,7 +78,7 @@ pub(crate) fn load_word(mem: &[u8], cover: Cover, width: Width) -> u64
 
 // The worst response over the covered bytes.
 pub(crate) fn load_worst(mem: &[u8], cover: Cover, width: Width) -> Response
-    ensures { result ≡ loaded_worst mem.now (width_bytes width) cover.first cover.last }
+    ensures { result ≡ read_worst (memory_board mem.now) (width_bytes width) cover }
 {
     let base = u64::from(width.word_start(cover.first));
     slave::worst_of(|i| fetched(mem, cover, base + u64::from(i)))

@@ -41,7 +41,7 @@ impl Port {
         })
     }
 
-    // Opens a burst on a channel. The converter opens alike; one call for both would want five arguments for three lines.
+    // Opens a burst on a channel.
     pub(crate) fn open(&mut self, channel: Channel, burst: RawBurst) -> Result<(), SlaveFault>
         ensures answer { (xs : List ℕ) → result ≡ open_answer (through self.old xs) channel burst }
         ensures after { (xs : List ℕ) → through self.new xs ≡ open_after (through self.old xs) channel burst }
@@ -70,13 +70,8 @@ impl Port {
         if open.strays(self.width, strobe) {
             return Err(SlaveFault::Strobe);
         }
-        let here = memory::store_word(
-            memory,
-            open.cover().unwrap().first,
-            self.width,
-            word,
-            strobe,
-        );
+        let cover = open.cover().unwrap();
+        let here = memory::store_word(memory, cover, self.width, word, strobe);
         self.channels.write.step(Step::Beat(here))
     }
 

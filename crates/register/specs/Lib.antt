@@ -1,4 +1,5 @@
--- What a register slice shows.
+-- From where a beat can be held to what a register slice shows.
 pub mod Fits
-pub mod Holds
-pub mod Laws
+pub mod Making
+pub mod Shows
+pub mod Sound

@@ -1,10 +1,10 @@
 // The register slice's calls as a slave.
-ghost use Rattle.register.specs.Holds.{shows, held_after, below_after, held_taken, below_taken};
-ghost use Rattle.register.specs.Laws.{slice_sound};
+ghost use Rattle.register.specs.Shows.{shows, below_of, held_of, held_after, below_after, held_taken, below_taken};
+ghost use Rattle.register.specs.Sound.{slice_sound};
 ghost use Rattle.slave.specs.Acts.{open_answer, open_after, give_answer, give_after, take_answer, take_after};
 ghost use Rattle.std.specs.Prelude.{◌≡◌, false, is_ok};
 
-use crate::slice::RegisterSlice;
+use crate::register::RegisterSlice;
 use burst::{RawBurst, Width};
 use slave::{Channel, Given, Place, Response, Slave, SlaveFault};
 
@@ -17,50 +17,51 @@ impl<S: Slave> Slave for RegisterSlice<S> {
         true
     }
 
+    #[tactic(auto, using(slave::proofs::Snapshots::known))]
     fn width(&self) -> Width {
-        self.below.width()
+        self.snapshot.width
     }
 
+    #[tactic(auto, using(slave::proofs::Snapshots::known))]
     fn most(&self) -> u16 {
-        self.below.most()
+        self.snapshot.most
     }
 
+    #[tactic(auto, using(slave::proofs::Snapshots::known))]
     fn full(&self) -> bool {
-        self.below.full()
+        self.snapshot.full
     }
 
+    #[tactic(auto, using(slave::proofs::Snapshots::known_place))]
     fn place(&self, channel: Channel) -> Place {
-        match channel {
-            Channel::Read => self.below.place(Channel::Read),
-            // the write's place counts the held beat, so the two channels differ
-            Channel::Write => self.write_place(),
-        }
+        self.snapshot.place(channel)
     }
 
     // While a beat is held its burst is open. Beside what the interface says, each call says which beat is held then, and
     // what has gone down.
-    #[tactic(auto, using(crate::specs::Laws::open_read, crate::specs::Laws::open_held))]
     fn open(&mut self, channel: Channel, burst: RawBurst) -> Result<(), SlaveFault>
         ensures answer { result ≡ open_answer (shows S.meaning self.old) channel burst }
         ensures after { shows S.meaning self.new ≡ open_after (shows S.meaning self.old) channel burst }
-        ensures held { self.new.held ≡ self.old.held }
-        ensures below { S.meaning self.new.below ≡ open_after (S.meaning self.old.below) channel burst }
+        ensures held { held_of self.new ≡ held_of self.old }
+        ensures below { S.meaning (below_of self.new) ≡ open_after (S.meaning (below_of self.old)) channel burst }
         ensures refused { is_ok result ≡ false → self.new ≡ self.old }
     {
-        match channel {
-            Channel::Write if self.held.is_some() => Err(SlaveFault::AlreadyOpen),
-            _ => self.below.open(channel, burst),
+        if self.snapshot.place(channel).is_some() {
+            return Err(SlaveFault::AlreadyOpen);
         }
+        self.below.open(channel, burst)?;
+        self.snapshot.set_place(channel, self.below.place(channel));
+        Ok(())
     }
 
     fn give(&mut self, word: u64, strobe: u8) -> Result<Given, SlaveFault>
         ensures answer { result ≡ give_answer (shows S.meaning self.old) word strobe }
         ensures after { shows S.meaning self.new ≡ give_after (shows S.meaning self.old) word strobe }
-        ensures held { self.new.held ≡ held_after self.old.held word strobe result }
-        ensures below { S.meaning self.new.below ≡ below_after (S.meaning self.old.below) self.old.held word strobe result }
+        ensures held { held_of self.new ≡ held_after (held_of self.old) word strobe result }
+        ensures below { S.meaning (below_of self.new) ≡ below_after (S.meaning (below_of self.old)) (held_of self.old) word strobe result }
         ensures refused { is_ok result ≡ false → self.new ≡ self.old }
     {
-        let at = self.write_place().ok_or(SlaveFault::NotOpen)?;
+        let at = self.snapshot.write.ok_or(SlaveFault::NotOpen)?;
         self.give_beat(at, word, strobe)
     }
 
@@ -68,14 +69,15 @@ impl<S: Slave> Slave for RegisterSlice<S> {
     fn take(&mut self) -> Result<(u64, Response, u16), SlaveFault>
         ensures answer { result ≡ take_answer (shows S.meaning self.old) }
         ensures after { shows S.meaning self.new ≡ take_after (shows S.meaning self.old) }
-        ensures held { self.new.held ≡ held_taken self.old.held result }
-        ensures below { S.meaning self.new.below ≡ below_taken (S.meaning self.old.below) self.old.held result }
+        ensures held { held_of self.new ≡ held_taken (held_of self.old) result }
+        ensures below { S.meaning (below_of self.new) ≡ below_taken (S.meaning (below_of self.old)) (held_of self.old) result }
         ensures refused { is_ok result ≡ false → self.new ≡ self.old }
     {
-        if self.below.place(Channel::Read).is_none() {
+        let Some(at) = self.snapshot.read else {
             return Err(SlaveFault::NotOpen);
-        }
+        };
         self.flush();
+        self.snapshot.read = at.next();
         self.below.take()
     }
 }

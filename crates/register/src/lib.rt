@@ -4,7 +4,8 @@
 mod calls;
 mod held;
 mod making;
-mod slice;
+mod register;
 
+pub use held::Held;
 pub use making::check;
-pub use slice::RegisterSlice;
+pub use register::RegisterSlice;

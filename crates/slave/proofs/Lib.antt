@@ -2,3 +2,4 @@ pub mod Words
 pub mod Worst
 pub mod Calls
 pub mod Soundness
+pub mod Snapshots

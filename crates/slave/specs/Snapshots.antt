@@ -18,3 +18,8 @@ answers_for s m =
 abbrev pub place_at : Snapshot → Channel → Option OpenBurst
 place_at s Write = s.write
 place_at s Read = s.read
+
+-- the answers once a channel stands elsewhere
+abbrev pub with_place : Channel → Option OpenBurst → Snapshot → Snapshot
+with_place Write p s = record s { write = p }
+with_place Read p s = record s { read = p }

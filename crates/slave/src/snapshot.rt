@@ -1,8 +1,8 @@
 // The answers to a slave's questions, kept so that nobody asks down a pile for them.
 ghost use Rattle.burst.specs.Rules.{width_bytes};
 ghost use Rattle.slave.specs.Meaning.{told};
-ghost use Rattle.slave.specs.Snapshots.{place_at};
-ghost use Rattle.std.specs.Prelude.{◌≡◌};
+ghost use Rattle.slave.specs.Snapshots.{answers_for, place_at, with_place};
+ghost use Rattle.std.specs.Prelude.{◌≡◌, true};
 
 use crate::answer::{Channel, Place};
 use crate::interface::Slave;
@@ -26,6 +26,7 @@ impl Snapshot {
         ensures full { result.full ≡ (S.Slave.meaning slave.now).full }
         ensures write { told result.write ≡ (S.Slave.meaning slave.now).write }
         ensures read { told result.read ≡ (S.Slave.meaning slave.now).read }
+        ensures kept { (S.Slave.meaning slave.now).live ≡ true → answers_for result (S.Slave.meaning slave.now) ≡ true }
     {
         Snapshot {
             width: slave.width(),
@@ -33,6 +34,16 @@ impl Snapshot {
             full: slave.full(),
             write: slave.place(Channel::Write),
             read: slave.place(Channel::Read),
+        }
+    }
+
+    // Keeps that a channel stands elsewhere.
+    pub fn set_place(&mut self, channel: Channel, place: Place)
+        ensures { self.new ≡ with_place channel place self.old }
+    {
+        match channel {
+            Channel::Write => self.write = place,
+            Channel::Read => self.read = place,
         }
     }
 

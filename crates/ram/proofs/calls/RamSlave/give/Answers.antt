@@ -1,5 +1,5 @@
 use Rattle.std.proofs.Common.{ap, ◌∙◌}
-use Rattle.ram.specs.Beats.{with_same}
+use Rattle.ram.proofs.Beats.{with_same}
 use Rattle.ram.proofs.calls.RamSlave.give.Goals as goal
 
 pub returns-clause-refused : goal.returns-clause-refused

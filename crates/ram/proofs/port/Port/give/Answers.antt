@@ -8,7 +8,7 @@ use Rattle.slave.specs.Meaning.{told}
 use Rattle.slave.specs.Acts.{past, step_answer}
 use Rattle.slave.proofs.Calls.{open_lawful, open_left}
 use Rattle.burst.proofs.Facts.{some_is}
-use Rattle.ram.specs.Beats.{stored_is}
+use Rattle.ram.proofs.Beats.{stored_is}
 use Rattle.slave.proofs.Soundness.{worst_past}
 use Rattle.ram.proofs.port.Port.give.Goals as goal
 
@@ -22,7 +22,7 @@ returns c =
     let lawful = open_lawful w (told p.channels.write.place) b k p.writes (ap told open_is) in
     let left = open_left w (told p.channels.write.place) b k p.writes (ap told open_is) in
     let kept : stray w (address_of b k) (last_of b k) c.args.strobe ≡ false = sym (c.if-strays.ensures.left left) in
-    let cover = some_is (ltb k b.count) (record { first = address_of b k; last = last_of b k }) c.unwrap.result c.cover.result c.cover.ensures c.unwrap.ensures in
+    let cover = some_is (ltb k b.count) (record { first = address_of b k; last = last_of b k }) c.unwrap-cover.result c.cover.result c.cover.ensures c.unwrap-cover.ensures in
     let here = rw cover at c.store_word-here.ensures.value in
     record {
       answer = rw (c.step.ensures.answer, here, open_is, kept);

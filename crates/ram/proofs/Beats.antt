@@ -1,4 +1,4 @@
--- What a store of a beat's lanes and a making come to, and that memory is a sound slave.
+-- What a store of a beat's lanes and a making come to.
 use Rattle.std.specs.Prelude.{◌≡◌, ℕ, ◌*◌, ◌/◌, ◌%◌, ◌≤◌, true, false, cond, List, length, vec_items, slice_index}
 use Rattle.std.specs.declared.vec.Vec.{Vec}
 use Rattle.std.specs.Vec.{with_items}
@@ -14,7 +14,7 @@ use Rattle.std.proofs.lemmas.Nat.{mod_below}
 use Rattle.burst.specs.declared.raw.RawBurst.{RawBurst}
 use Rattle.burst.specs.declared.raw.Width.{Width}
 use Rattle.burst.specs.Rules.{width_bytes}
-use Rattle.burst.specs.Beats.{IsLawful, address_of, last_of}
+use Rattle.burst.specs.Beats.{IsLawful, address_of, last_of, cover_of}
 use Rattle.burst.proofs.Facts.{beat_in_word, width_power}
 use Rattle.slave.specs.declared.answer.Response.{Response}
 use Rattle.slave.specs.declared.answer.Response.TheVariants.{Okay}
@@ -23,18 +23,18 @@ use Rattle.slave.specs.Meaning.{plain, unmapped, Stand, idle, busy, told, sound_
 use Rattle.slave.specs.Lanes.{stray, written}
 use Rattle.slave.proofs.Soundness.{quiet_at}
 use Rattle.ram.specs.declared.port.Port.{Port}
-use Rattle.ram.specs.declared.calls.Ram.{Ram}
-use Rattle.ram.specs.Memory.{put_lanes, kind_at}
+use Rattle.ram.specs.declared.ram.Ram.{Ram}
+use Rattle.ram.specs.Memory.{put_lanes, kind_at, memory_board}
 use Rattle.ram.specs.Making.{make_refusal}
 use Rattle.ram.specs.Shows.{shows, through, ram_meaning, ram_made}
-use Rattle.ram.specs.Stores.{put_written, length_put, kind_same}
+use Rattle.ram.proofs.Stores.{put_written, length_put, kind_same}
 
 -- memory after a beat's lanes are stored, with the write channel standing elsewhere
 pub stored_is : (xs : List ℕ) (W : Width) (most : ℕ) (b : RawBurst) (k : ℕ) (worst : Response) (read : Stand) (word s : ℕ)
     → IsLawful (width_bytes W) b → stray (width_bytes W) (address_of b k) (last_of b k) s ≡ false
     → (p : Stand) (v : Response) → worst_at p v ≡ v
     → shows (put_lanes xs (address_of b k / width_bytes W * width_bytes W) word s 8) (width_bytes W) most p v read
-    ≡ with_write p v (written (shows xs (width_bytes W) most (busy b k) worst read) (address_of b k) (last_of b k) word s) (shows xs (width_bytes W) most (busy b k) worst read)
+    ≡ with_write p v (written (memory_board xs) (width_bytes W) (cover_of b k) word s) (shows xs (width_bytes W) most (busy b k) worst read)
 stored_is xs W most b k worst read word s lawful kept p v quiet =
     let w : ℕ = width_bytes W in
     let bytes = fun_ext (put_written xs w (address_of b k) (last_of b k) word s (beat_in_word W b k lawful) kept) in
@@ -52,29 +52,3 @@ with_same {X = X} {Z = Z} v ws e = ap (with_items v) e ∙ (λ i. record { ptr =
   where
     p : take v.len (v.items ++ drop (length v.items) v.items) ≡ v.items
     p = with_items_is v v.items (sym v.ok.0)
-
--- memory is a sound slave
-void_at : (xs : List ℕ) (a : ℕ) → is_there (kind_at xs a) ≡ false → slice_index xs a % 256 ≡ 0
-void_at xs a h =
-    ⊎_elim
-    (λ lt. absurd (true≢false (sym (ap (λ t. is_there (cond t plain unmapped)) (lt-ltb a (length xs) lt)) ∙ h)))
-    (λ ge. ap (λ n. n % 256) (get_or_past xs a 0 ge))
-    (cases_lt a (length xs))
-
-shows_sound : (xs : List ℕ) (W : Width) (most : ℕ) (write : Stand) (worst : Response) (read : Stand) → 1 ≤ most → most ≤ 256 → sound_stand (width_bytes W) write ≡ true → sound_stand (width_bytes W) read ≡ true
-    → Sound (shows xs (width_bytes W) most write worst read)
-shows_sound xs W most write worst read lo hi h k = record {
-  small = λ a. mod_below (slice_index xs a) 256 (omega arith);
-  void = void_at xs;
-  wide = width_power W;
-  some = lo;
-  few = hi;
-  whole = λ e. absurd (true≢false (sym e));
-  write = h;
-  read = k;
-  quiet = quiet_at write worst;
-  gone = λ e. absurd (true≢false e);
-}
-
-pub ram_sound : (r : Ram) → Sound (ram_meaning r)
-ram_sound r = let p = r.port in shows_sound (vec_items r.memory) p.width p.most (told p.channels.write.place) p.channels.write.worst (told p.channels.read.place) p.some p.few p.writes p.reads

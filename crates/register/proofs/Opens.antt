@@ -1,6 +1,6 @@
--- What a slice shows: sound, and untouched by a read below.
-use Rattle.std.specs.Prelude.{◌≡◌, ℕ, ◌+◌, ◌<◌, Bool, true, false, cond, not, ◌&&◌, Some, None, Ok, Err, Option, Result, nat_lt, refl}
-use Rattle.std.proofs.Common.{sym, ◌∙◌, ap, arith, ltb}
+-- What a slice shows: untouched by a read below.
+use Rattle.std.specs.Prelude.{◌≡◌, ℕ, ◌+◌, ◌<◌, true, false, cond, not, Some, None, Ok, Err, Option, Result, nat_lt, refl}
+use Rattle.std.proofs.Common.{sym, ◌∙◌, ap, arith}
 use Rattle.std.proofs.lemmas.Bool.{true≢false, and_parts, lt-ltb, le-ltb}
 use Rattle.std.proofs.lemmas.Bool.Decides.{nat_tests}
 use Rattle.std.proofs.Math.Bool.{Bool-set}
@@ -8,23 +8,16 @@ use mathlib.Core.HLevel.{is_prop→PathP}
 use Rattle.burst.specs.Beats.{address_of, last_of}
 use Rattle.burst.specs.declared.raw.RawBurst.{RawBurst}
 use Rattle.slave.specs.declared.answer.SlaveFault.{SlaveFault}
-use Rattle.slave.specs.declared.answer.SlaveFault.TheVariants.{AlreadyOpen}
 use Rattle.slave.specs.declared.answer.Given.TheVariants.{More, Done}
-use Rattle.slave.specs.declared.answer.Channel.TheVariants.{Read, Write}
-use Rattle.slave.specs.Meaning.{Meaning, Stand, idle, busy, Sound, with_read}
+use Rattle.slave.specs.declared.answer.Channel.TheVariants.{Read}
+use Rattle.slave.specs.Meaning.{Meaning, Stand, idle, busy, with_read}
 use Rattle.slave.specs.Lanes.{stray}
-use Rattle.slave.specs.Acts.{give_after, give_answer, worst_after, left, past, open_answer, open_after, on_ok}
+use Rattle.slave.specs.Acts.{give_after, give_answer, worst_after, left, open_answer, open_after, on_ok}
 use Rattle.slave.proofs.Calls.{give_live, give_width, give_most, give_full, give_read, give_with_read, give_taken}
-use Rattle.slave.proofs.Soundness.{give_sound}
+use Rattle.slave.specs.Snapshots.{answers_for}
 use Rattle.register.specs.declared.held.Held.{Held}
-use Rattle.register.specs.declared.slice.RegisterSlice.{RegisterSlice}
-use Rattle.register.specs.Holds.{behind}
-use Rattle.register.specs.Fits.{fits_at, holds_at}
-
--- a slice over a sound slave is sound
-pub slice_sound : (h : Option Held) (m : Meaning) → Sound m → Sound (behind m h)
-slice_sound None m s = s
-slice_sound (Some h) m s = give_sound m h.word h.strobe s
+use Rattle.register.specs.declared.register.RegisterSlice.{RegisterSlice}
+use Rattle.register.specs.Fits.{fits_at, holds_at, behind}
 
 -- opening a read is answered the same after a give
 open_read_answer : (m : Meaning) (w s : ℕ) (b : RawBurst) → open_answer (give_after m w s) Read b ≡ open_answer m Read b
@@ -67,24 +60,22 @@ holding h m e =
         let p = and_parts (nat_lt (k + 1) b.count) (not (stray m.width (address_of b k) (last_of b k) h.strobe)) fit in
         record { burst = b; beat = k; live = live; at = at; next = grind (arith, nat_tests); kept = grind (arith, nat_tests) }
 
--- an open write is opened no second time
-busy_open : (m : Meaning) (c : RawBurst) (k : ℕ) (b : RawBurst) → m.live ≡ true → m.write ≡ busy c k → open_answer m Write b ≡ Err AlreadyOpen
-busy_open m c k b live at = simp (live, at)
-
--- the burst of a held beat is open, before the beat goes down and after
-pub open_held : (h : Held) (m : Meaning) (b : RawBurst) → holds_at (Some h) m ≡ true
-    → (open_answer m Write b ≡ Err AlreadyOpen) × (open_answer (behind m (Some h)) Write b ≡ Err AlreadyOpen)
-open_held h m b e =
+-- the burst of a held beat is open behind it
+pub held_open : (h : Held) (m : Meaning) (e : holds_at (Some h) m ≡ true) → (behind m (Some h)).write ≡ busy (holding h m e).burst ((holding h m e).beat + 1)
+held_open h m e =
     let x = holding h m e in
     let g = (give_taken m x.burst x.beat h.word h.strobe x.live x.at x.kept).1 in
-    let there : past x.burst x.beat ≡ busy x.burst (x.beat + 1) = ap (λ t. cond t (busy x.burst (x.beat + 1)) idle) (lt-ltb (x.beat + 1) x.burst.count x.next) in (
-      busy_open m x.burst x.beat b x.live x.at,
-      busy_open (give_after m h.word h.strobe) x.burst (x.beat + 1) b (give_live m h.word h.strobe ∙ x.live) (ap (λ z. z.write) g ∙ there),
-    )
+    ap (λ z. z.write) g ∙ ap (λ t. cond t (busy x.burst (x.beat + 1)) idle) (lt-ltb (x.beat + 1) x.burst.count x.next)
 
--- slices with the same slave below and the same beat held are the same
-pub slice_same : {S : Type 0} {g : _} (p q : RegisterSlice S g) → p.below ≡ q.below → p.held ≡ q.held → p ≡ q
-slice_same {g = g} p q e h = λ i. record { below = e i; held = h i; placed = is_prop→PathP (λ j. holds_at (h j) (g.meaning (e j)) ≡ true) (λ j. Bool-set (holds_at (h j) (g.meaning (e j))) true) p.placed q.placed i }
+-- slices with the same parts are the same
+pub slice_same : {S : Type 0} {g : _} (p q : RegisterSlice S g) → p.below ≡ q.below → p.held ≡ q.held → p.snapshot ≡ q.snapshot → p ≡ q
+slice_same {g = g} p q e h s = λ i. record {
+  below = e i;
+  held = h i;
+  snapshot = s i;
+  placed = is_prop→PathP (λ j. holds_at (h j) (g.meaning (e j)) ≡ true) (λ j. Bool-set (holds_at (h j) (g.meaning (e j))) true) p.placed q.placed i;
+  known = is_prop→PathP (λ j. answers_for (s j) (behind (g.meaning (e j)) (h j)) ≡ true) (λ j. Bool-set (answers_for (s j) (behind (g.meaning (e j)) (h j))) true) p.known q.known i;
+}
 
 -- a slice is live
 pub slice_live : (h : Option Held) (m : Meaning) → holds_at h m ≡ true → (behind m h).live ≡ true

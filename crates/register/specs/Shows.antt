@@ -1,18 +1,21 @@
--- What a slave shows with a write beat held in front of it, and which slave a slice may stand over.
-use Rattle.std.specs.Prelude.{ℕ, cond, Some, None, Option, Ok, Err, Result, ◌==◌}
+-- What a register slice shows, which beat it holds, and what the slave below was given.
+use Rattle.std.specs.Prelude.{ℕ, Some, None, Option, Ok, Err, Result}
 use Rattle.slave.specs.declared.answer.SlaveFault.{SlaveFault}
 use Rattle.slave.specs.declared.answer.Given.{Given}
 use Rattle.slave.specs.declared.answer.Given.TheVariants.{More, Done}
-use Rattle.slave.specs.Making.{ready}
-use Rattle.slave.specs.Meaning.{Meaning, dead}
+use Rattle.slave.specs.Meaning.{Meaning}
 use Rattle.slave.specs.Acts.{give_after, take_after}
 use Rattle.register.specs.declared.held.Held.{Held}
-use Rattle.register.specs.declared.slice.RegisterSlice.{RegisterSlice}
+use Rattle.register.specs.declared.register.RegisterSlice.{RegisterSlice}
+use Rattle.register.specs.Fits.{behind}
 
--- a slave with a write beat held in front of it shows what it would after that beat
-abbrev pub behind : Meaning → Option Held → Meaning
-behind m None = m
-behind m (Some h) = give_after m h.word h.strobe
+-- the slave below a slice
+abbrev pub below_of : {S : Type 0} {g : _} → RegisterSlice S g → S
+below_of p = p.below
+
+-- the beat that it holds
+abbrev pub held_of : {S : Type 0} {g : _} → RegisterSlice S g → Option Held
+held_of p = p.held
 
 -- what a slice shows, by what the slave below shows
 abbrev pub shows : {S : Type 0} {g : _} → (S → Meaning) → RegisterSlice S g → Meaning
@@ -39,11 +42,3 @@ held_taken h (Err e) = h
 abbrev pub below_taken : {A : Type 0} → Meaning → Option Held → Result A SlaveFault → Meaning
 below_taken m h (Ok x) = take_after (behind m h)
 below_taken m h (Err e) = m
-
--- the number of the rule that the slave below breaks, or 0
-abbrev pub make_refusal : Meaning → ℕ
-make_refusal m = cond (ready m) 0 18
-
--- what is made over a slave: it shows the same, and is dead where the check refuses
-abbrev pub slice_made : Meaning → Meaning
-slice_made m = cond (make_refusal m == 0) m dead

@@ -1,7 +1,7 @@
 use Rattle.std.proofs.Common.{ap, ◌∙◌}
-use Rattle.ram.specs.Beats.{made_is}
+use Rattle.ram.proofs.Beats.{made_is}
 use Rattle.ram.specs.Making.{make_refusal}
-use Rattle.ram.proofs.calls.Ram.new.Goals as goal
+use Rattle.ram.proofs.ram.Ram.new.Goals as goal
 
 pub returns-clause-shown : goal.returns-clause-shown
 returns-clause-shown c =
