@@ -6,7 +6,6 @@ use Rattle.slave.specs.declared.answer.Channel.{Channel}
 use Rattle.slave.specs.declared.answer.Channel.TheVariants.{Write, Read}
 use Rattle.fabric.specs.declared.types.Act.{Act}
 use Rattle.fabric.specs.declared.types.Act.TheVariants.{Request as Ask, Grant, Put, Take}
-use Rattle.slave.specs.Lanes.{worse}
 use Rattle.history.specs.History.{Event, History, accepted, tally, accepted_acts, requests, age, rank, pick, picked, waiting, own, Going, current, opened}
 use Rattle.history.specs.Bytes.{Board, strobes, stored, shown, word_read, worst}
 use Rattle.history.specs.Owed.{owed, owed_request, owed_grant, owed_put_at, owed_take_at, Run}
@@ -69,11 +68,6 @@ module _ (m : Board) (h k : History) (e : Alike m h k) where
     worsts = rw f e.worsts;
   }
 
-  -- a read shows the same
-  shown_alike : shown m h ≡ shown m k
-  unfolding shown
-  shown_alike = fun_ext (λ a. ap (Rattle.slave.specs.Lanes.shown_of (m.kinds a)) (e.holds a))
-
   -- a put is owed the same
   put_alike : (o : Option Going) (p s : ℕ) (l : Bool) → owed_put_at m h o p s l ≡ owed_put_at m k o p s l
   put_alike None p s l = refl
@@ -81,9 +75,9 @@ module _ (m : Board) (h k : History) (e : Alike m h k) where
 
   -- and a take
   take_alike : (o : Option Going) → owed_take_at m h o ≡ owed_take_at m k o
-  unfolding word_read
+  unfolding word_read shown
   take_alike None = refl
-  take_alike (Some g) = rw shown_alike
+  take_alike (Some g) = rw (fun_ext (λ a. e.holds a))
 
   -- and every act
   owed_alike : (a : Act) → owed m h a ≡ owed m k a

@@ -2,7 +2,7 @@
 use Rattle.std.proofs.Common.{◌≡◌, ℕ, ◌+◌, Bool, true, false, cond, eqb, ltb, ◌∷◌, Some, None, Ok, Err, Option, Result, refl, ap, ◌∙◌, ⊎_elim}
 use mathlib.Core.Bool.{beq}
 use Rattle.burst.specs.declared.raw.RawBurst.{RawBurst}
-use Rattle.burst.specs.Beats.{address_of, last_of}
+use Rattle.burst.specs.Beats.{address_of, last_of, cover_of}
 use Rattle.slave.specs.declared.answer.Channel.{Channel}
 use Rattle.slave.specs.declared.answer.Channel.TheVariants.{Write, Read}
 use Rattle.fabric.specs.declared.types.Act.{Act}
@@ -22,7 +22,7 @@ use Rattle.fabric.specs.declared.types.FabricFault.TheVariants.{LastMark, NotOpe
 use Rattle.fabric.specs.Rows.{moved}
 use Rattle.fabric.specs.Acts.{passed, where_passed, carried, put_test, put_given, put_answer, put_after, put_slave}
 use Rattle.history.specs.History.{Event, History, same, Going, burst_of, opened}
-use Rattle.history.specs.Bytes.{Board, strobes, stored, response_written, worst}
+use Rattle.history.specs.Bytes.{Board, board, strobes, stored, response_written, worst}
 use Rattle.history.specs.Owed.{owed, owed_put_at, put_of, is_last}
 use Rattle.history.proofs.Beats.{opened_current}
 use Rattle.history.proofs.Whole.{worst_put}
@@ -106,7 +106,7 @@ module _ (m : Board) (h : History) (master word strobe : ℕ) (mark : Bool) wher
     given_is : put_given (open_as g) (gave_answer s b k strobe) ≡ put_of m h g strobe
     given_is = ⊎_elim (λ e. rw (e.0, e.1)) (λ e. rw (e.0, e.1, worst_is)) (last_or_more k b.count (opened_current Write h g open_is).1)
 
-    bytes_are : written s at to word strobe ≡ stored m (x ∷ h)
+    bytes_are : written (board s) 8 (cover_of b k) word strobe ≡ stored m (x ∷ h)
     unfolding stored strobes
     bytes_are = fun_ext (λ n. rw (opened_current Write h g open_is).0)
 

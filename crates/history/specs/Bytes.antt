@@ -1,25 +1,17 @@
 -- Bytes over a history: what the puts have written, what a read shows, and the responses.
 use Rattle.std.specs.Prelude.{◌≡◌, ℕ, ◌%◌, ◌<◌, Bool, true, false, cond, ◌&&◌, ◌⊎◌, List, [], ◌∷◌, ◌++◌, Some, None, Option}
 use Rattle.burst.specs.declared.raw.RawBurst.{RawBurst}
-use Rattle.burst.specs.Beats.{address_of, lane_address, bit}
+use Rattle.burst.specs.Beats.{cover_of, bit}
 use Rattle.burst.specs.Laws.{covered}
 use Rattle.slave.specs.declared.answer.Response.{Response}
 use Rattle.slave.specs.declared.answer.Response.TheVariants.{Okay}
 use Rattle.slave.specs.declared.answer.Channel.TheVariants.{Write}
-use Rattle.slave.specs.Meaning.{Meaning, ByteKind}
-use Rattle.slave.specs.Lanes.{lane_byte, word_of, worse, worst_lane, write_response, read_response, is_plain, shown_of}
+pub use Rattle.slave.specs.Meaning.{Board, board}
+use Rattle.slave.specs.Lanes.{lane_byte, worse, is_plain, read_word, read_worst, write_worst}
+use Rattle.slave.specs.Lanes.{shown as byte_shown}
 use Rattle.fabric.specs.declared.types.Act.{Act}
 use Rattle.fabric.specs.declared.types.Act.TheVariants.{Request as Ask, Grant, Put, Take}
 use Rattle.history.specs.History.{Event, History, Throughout, accepted, granting, moving, Going, current, burst_of}
-
--- the byte and the kind of every address
-pub record Board : Type 0 where
-  pub bytes : ℕ → ℕ
-  pub kinds : ℕ → ByteKind
-
--- what a slave shows of its bytes
-abbrev pub board : Meaning → Board
-board m = record { bytes = m.bytes; kinds = m.kinds }
 
 -- bytes are below 256
 abbrev pub BytesSmall : Board → Type 0
@@ -67,24 +59,25 @@ unfoldable pub stored : Board → History → ℕ → ℕ
 stored m [] a = m.bytes a
 stored m (x ∷ before) a = cond (strobes before x a && is_plain (m.kinds a)) (byte_in x a) (stored m before a)
 
+-- the bytes and kinds after a history
+abbrev pub board_after : Board → History → Board
+board_after m h = record m { bytes = stored m h }
+
 -- what a read shows of the address a
 unfoldable pub shown : Board → History → ℕ → ℕ
-shown m h a = shown_of (m.kinds a) (stored m h a)
+shown m h a = byte_shown (board_after m h) a
 
 -- the word of beat j of a read: each covered byte in its lane, all other lanes 0
 unfoldable pub word_read : Board → History → RawBurst → ℕ → ℕ
-word_read m h b j =
-    word_of (λ i. cond (covered b j (lane_address 8 (address_of b j) i)) (shown m h (lane_address 8 (address_of b j) i)) 0)
+word_read m h b j = read_word (board_after m h) 8 (cover_of b j)
 
 -- its response, the worst over the covered bytes
 unfoldable pub response_read : Board → RawBurst → ℕ → Response
-response_read m b j =
-    worst_lane (λ i. cond (covered b j (lane_address 8 (address_of b j) i)) (read_response (m.kinds (lane_address 8 (address_of b j) i))) Okay) 8
+response_read m b j = read_worst m 8 (cover_of b j)
 
 -- the response of beat j of a write with the strobe s, the worst over the strobed bytes
 unfoldable pub response_written : Board → RawBurst → ℕ → ℕ → Response
-response_written m b j s =
-    worst_lane (λ i. cond (bit s i) (write_response (m.kinds (lane_address 8 (address_of b j) i))) Okay) 8
+response_written m b j s = write_worst m 8 (cover_of b j) s
 
 -- the response of a put with the next beat of the write
 abbrev pub response_at : Board → Option Going → Act → Response
