@@ -26,8 +26,8 @@ use Rattle.splitter.specs.Fits.{stand_below}
 use Rattle.splitter.specs.Shows.{split_shows, splits}
 use Rattle.splitter.specs.Follows.{follow_after}
 use Rattle.splitter.proofs.Walks.{run_cover, next_none}
-use Rattle.splitter.proofs.Places.{stood_at, Fitting, moved, Quiet, goes_on}
-use Rattle.splitter.proofs.Opens.{Stood, Left, left_by, beat_sound}
+use Rattle.splitter.proofs.Places.{stand_at_beat, Fitting, with_stand, Quiet, goes_on}
+use Rattle.splitter.proofs.Opens.{Holds, Leaves, leaves_by, beat_sound}
 
 -- a give where no write is open
 give_none : (m : Meaning) (w s : ℕ) → m.live ≡ true → m.write ≡ idle → give_answer m w s ≡ Err NotOpen
@@ -66,7 +66,7 @@ module _ (M : ℕ) (b : RawBurst) (j : ℕ) (kept : Response) (r : Stand) (m : M
   here = open_left m.width (busy b j) b j opens refl
 
   abbrev at : m.write ≡ busy run i
-  at = stand ∙ stood_at M b j some here
+  at = stand ∙ stand_at_beat M b j some here
 
   same : cover_of run i ≡ cover_of b j
   same = run_cover M b j law8 some here
@@ -129,18 +129,18 @@ module _ (M : ℕ) (b : RawBurst) (j : ℕ) (kept : Response) (r : Stand) (m : M
       answers =
           ap (λ x. step_answer (busy b j) kept (Beat x)) response ∙ ap Ok (done_joined on more (left b j) kept m.worst v over) ∙ sym own.0
 
-      pub follows : follow_after M Write (past b j) (give_after m w s) ≡ moved Write (stand_below M (past b j)) n
+      pub follows : follow_after M Write (past b j) (give_after m w s) ≡ with_stand Write (stand_below M (past b j)) n
       follows =
           ap (follow_after M Write (past b j)) below_after
           ∙ goes_on M Write b j n law8 some most here live quiet_after refl (open_lawful m.width (busy b j) b j opens refl)
 
-      pub shown : (q : Stand) → split_shows (past b j) (step_worst (busy b j) kept (Beat (given_response given))) r (moved Write q n) ≡ give_after X w s
+      pub shown : (q : Stand) → split_shows (past b j) (step_worst (busy b j) kept (Beat (given_response given))) r (with_stand Write q n) ≡ give_after X w s
       shown q =
-          ap (λ x. split_shows (past b j) (step_worst (busy b j) kept (Beat x)) r (moved Write q n)) response
+          ap (λ x. split_shows (past b j) (step_worst (busy b j) kept (Beat x)) r (with_stand Write q n)) response
           ∙ ap (λ x. with_write (past b j) x (written (board m) m.width (cover_of b j) w s) X) (worst_joined on more b (j + 1) kept m.worst v) ∙ sym own.1
 
 -- a give at any place
-module _ {M W : ℕ} {c : Channels} {m : Meaning} (own : Stood M W c m) (w s : ℕ) where
+module _ {M W : ℕ} {c : Channels} {m : Meaning} (own : Holds M W c m) (w s : ℕ) where
   abbrev f : Fitting M c m
   f = own.fits
 
@@ -183,7 +183,7 @@ module _ {M W : ℕ} {c : Channels} {m : Meaning} (own : Stood M W c m) (w s : �
         → d.write.worst ≡ step_worst (told c.write.place) kept (Beat x) → d.read ≡ c.read
         → (n : Meaning) → n ≡ follow_after M Write (told d.write.place) (give_after m w s)
         → (step_answer (told c.write.place) kept (Beat x) ≡ give_answer (splits c m) w s)
-        × Left M W Write d (give_after m w s) n (give_after (splits c m) w s)
+        × Leaves M W Write d (give_after m w s) n (give_after (splits c m) w s)
     gave x is d place worst same n e = by c.write.place (f.stand Write) lawful place worst
       where
         after : sound_stand W (told d.write.place) ≡ true
@@ -192,7 +192,7 @@ module _ {M W : ℕ} {c : Channels} {m : Meaning} (own : Stood M W c m) (w s : �
         by : (p : Option OpenBurst) → m.write ≡ stand_below M (told p) → sound_stand m.width (told p) ≡ true → told d.write.place ≡ step_place (told p) (Beat x)
             → d.write.worst ≡ step_worst (told p) kept (Beat x)
             → (step_answer (told p) kept (Beat x) ≡ give_answer (split_shows (told p) kept r m) w s)
-            × Left M W Write d (give_after m w s) n (give_after (split_shows (told p) kept r m) w s)
+            × Leaves M W Write d (give_after m w s) n (give_after (split_shows (told p) kept r m) w s)
         by None q o place worst = let e = h ∙ give_none m w s f.live q in cc
         by (Some y) q o place worst =
             let b = raw_of y.burst in
@@ -203,12 +203,12 @@ module _ {M W : ℕ} {c : Channels} {m : Meaning} (own : Stood M W c m) (w s : �
             (λ t. let z : Meaning = gone M b j kept r m w s sound y.burst.lawful f.live f.some q o (cover_of b j) in
             let p : Stand = stand_below M (told d.write.place) in (
               ap (λ v. step_answer (busy b j) kept (Beat v)) is ∙ answers M b j kept r m w s sound y.burst.lawful f.live f.some q o t f.most given h,
-              left_by own Write d (give_after m w s) n (give_after X w s) z after same refl refl refl refl e
+              leaves_by own Write d (give_after m w s) n (give_after X w s) z after same refl refl refl refl e
                   (ap (λ v. follow_after M Write v (give_after m w s)) place ∙ follows M b j kept r m w s sound y.burst.lawful f.live f.some q o t f.most given h
-                  ∙ ap (λ v. moved Write (stand_below M v) z) (sym place))
-                  (ap (λ v. split_shows v d.write.worst (told d.read.place) (moved Write p z)) place
-                  ∙ ap (λ v. split_shows (past b j) v (told d.read.place) (moved Write p z)) (worst ∙ ap (λ v. step_worst (busy b j) kept (Beat v)) is)
-                  ∙ ap (λ v. split_shows (past b j) (step_worst (busy b j) kept (Beat (given_response given))) (told v.place) (moved Write p z)) same
+                  ∙ ap (λ v. with_stand Write (stand_below M v) z) (sym place))
+                  (ap (λ v. split_shows v d.write.worst (told d.read.place) (with_stand Write p z)) place
+                  ∙ ap (λ v. split_shows (past b j) v (told d.read.place) (with_stand Write p z)) (worst ∙ ap (λ v. step_worst (busy b j) kept (Beat v)) is)
+                  ∙ ap (λ v. split_shows (past b j) (step_worst (busy b j) kept (Beat (given_response given))) (told v.place) (with_stand Write p z)) same
                   ∙ shown M b j kept r m w s sound y.burst.lawful f.live f.some q o t f.most given h p),
             ))
             (cases_Bool (stray m.width (address_of b j) (last_of b j) s))

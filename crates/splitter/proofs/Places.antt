@@ -28,11 +28,11 @@ same_self idle q e = ap is_idle e
 same_self (busy b k) q e = ap (same_stand (busy b k)) e ∙ is_at_self b k
 
 -- the place below of a beat that is left
-pub told_at : (M : ℕ) (b : RawBurst) (j : ℕ) → 0 < M → j < b.count → run_answer M b j ≡ Some (run_of M b j, beat_in M b j)
-told_at M b j some left = grind (arith, nat_tests)
+pub run_at_beat : (M : ℕ) (b : RawBurst) (j : ℕ) → 0 < M → j < b.count → run_answer M b j ≡ Some (run_of M b j, beat_in M b j)
+run_at_beat M b j some left = grind (arith, nat_tests)
 
-pub stood_at : (M : ℕ) (b : RawBurst) (j : ℕ) → 0 < M → j < b.count → stand_below M (busy b j) ≡ busy (run_of M b j) (beat_in M b j)
-stood_at M b j some left = ap run_stand (told_at M b j some left)
+pub stand_at_beat : (M : ℕ) (b : RawBurst) (j : ℕ) → 0 < M → j < b.count → stand_below M (busy b j) ≡ busy (run_of M b j) (beat_in M b j)
+stand_at_beat M b j some left = ap run_stand (run_at_beat M b j some left)
 
 -- what a fitting record says
 pub record Fitting (M : ℕ) (c : Channels) (m : Meaning) : Type 0 where
@@ -64,37 +64,37 @@ fits_from M c m l n at =
     (and_from _ _ (same_self (stand_below M (told c.write.place)) m.write (at Write)) (same_self (stand_below M (told c.read.place)) m.read (at Read)))
 
 -- the slave below with one channel standing elsewhere
-abbrev pub moved : Channel → Stand → Meaning → Meaning
-moved Write q m = with_write q m.worst m.bytes m
-moved Read q m = with_read q m
+abbrev pub with_stand : Channel → Stand → Meaning → Meaning
+with_stand Write q m = with_write q m.worst m.bytes m
+with_stand Read q m = with_read q m
 
-moved_self : (ch : Channel) (m : Meaning) → m ≡ moved ch (stand_at m ch) m
-moved_self Write m = refl
-moved_self Read m = refl
+with_stand_self : (ch : Channel) (m : Meaning) → m ≡ with_stand ch (stand_at m ch) m
+with_stand_self Write m = refl
+with_stand_self Read m = refl
 
 abbrev pub Quiet : Meaning → Type 0
 Quiet m = is_idle m.write ≡ true → m.worst ≡ Okay
 
-opened_moved : (ch : Channel) (b : RawBurst) (m : Meaning) → Quiet m → stand_at m ch ≡ idle → opened ch b m ≡ moved ch (busy b 0) m
-opened_moved Write b m quiet e = ap (λ r. with_write (busy b 0) r m.bytes m) (sym (quiet (ap is_idle e)))
-opened_moved Read b m quiet e = refl
+opened_with_stand : (ch : Channel) (b : RawBurst) (m : Meaning) → Quiet m → stand_at m ch ≡ idle → opened ch b m ≡ with_stand ch (busy b 0) m
+opened_with_stand Write b m quiet e = ap (λ r. with_write (busy b 0) r m.bytes m) (sym (quiet (ap is_idle e)))
+opened_with_stand Read b m quiet e = refl
 
 -- it fits a record with that channel's place, where the other channel stays
-pub fits_moved : (M : ℕ) (ch : Channel) (c d : Channels) (m n : Meaning) → Fitting M c m → n.live ≡ m.live → n.most ≡ m.most
+pub fits_with_stand : (M : ℕ) (ch : Channel) (c d : Channels) (m n : Meaning) → Fitting M c m → n.live ≡ m.live → n.most ≡ m.most
     → stand_at n (other ch) ≡ stand_at m (other ch) → state_at (other ch) d ≡ state_at (other ch) c
-    → stands M d (moved ch (stand_below M (told (state_at ch d).place)) n) ≡ true
-fits_moved M Write c d m n f live most stays same =
-    fits_from M d (moved Write (stand_below M (told d.write.place)) n) (live ∙ f.live) (ap (λ k. numbered M (record m { most = k })) most ∙ f.number)
+    → stands M d (with_stand ch (stand_below M (told (state_at ch d).place)) n) ≡ true
+fits_with_stand M Write c d m n f live most stays same =
+    fits_from M d (with_stand Write (stand_below M (told d.write.place)) n) (live ∙ f.live) (ap (λ k. numbered M (record m { most = k })) most ∙ f.number)
     (at (stays ∙ f.stand Read ∙ ap (λ s. stand_below M (told s.place)) (sym same)))
   where
-    at : n.read ≡ stand_below M (told d.read.place) → (ch : Channel) → stand_at (moved Write (stand_below M (told d.write.place)) n) ch ≡ stand_below M (told (state_at ch d).place)
+    at : n.read ≡ stand_below M (told d.read.place) → (ch : Channel) → stand_at (with_stand Write (stand_below M (told d.write.place)) n) ch ≡ stand_below M (told (state_at ch d).place)
     at e Write = refl
     at e Read = e
-fits_moved M Read c d m n f live most stays same =
-    fits_from M d (moved Read (stand_below M (told d.read.place)) n) (live ∙ f.live) (ap (λ k. numbered M (record m { most = k })) most ∙ f.number)
+fits_with_stand M Read c d m n f live most stays same =
+    fits_from M d (with_stand Read (stand_below M (told d.read.place)) n) (live ∙ f.live) (ap (λ k. numbered M (record m { most = k })) most ∙ f.number)
     (at (stays ∙ f.stand Write ∙ ap (λ s. stand_below M (told s.place)) (sym same)))
   where
-    at : n.write ≡ stand_below M (told d.write.place) → (ch : Channel) → stand_at (moved Read (stand_below M (told d.read.place)) n) ch ≡ stand_below M (told (state_at ch d).place)
+    at : n.write ≡ stand_below M (told d.write.place) → (ch : Channel) → stand_at (with_stand Read (stand_below M (told d.read.place)) n) ch ≡ stand_below M (told (state_at ch d).place)
     at e Write = e
     at e Read = refl
 
@@ -106,41 +106,41 @@ stays M ch p m h = by (run_below M p) h
     by None e = elim (is_idle (stand_at m ch)) as (λ t. cond t m m ≡ m) [ true ↦ refl | false ↦ refl ]
     by (Some x) e = ap (λ q. cond (is_idle q) (with_run ch (Some x) m) m) e
 
-stood : (M : ℕ) (ch : Channel) (p : Stand) (m : Meaning) → stand_at m ch ≡ stand_below M p → follow_after M ch p m ≡ moved ch (stand_below M p) m
-stood M ch p m h = stays M ch p m h ∙ moved_self ch m ∙ ap (λ q. moved ch q m) h
+stays_stand : (M : ℕ) (ch : Channel) (p : Stand) (m : Meaning) → stand_at m ch ≡ stand_below M p → follow_after M ch p m ≡ with_stand ch (stand_below M p) m
+stays_stand M ch p m h = stays M ch p m h ∙ with_stand_self ch m ∙ ap (λ q. with_stand ch q m) h
 
 -- the first run of a burst, and each run after another, is opened
 pub starts : (M : ℕ) (ch : Channel) (b : RawBurst) (j : ℕ) (m : Meaning) → IsLawful 8 b → 0 < M → M ≤ m.most → j < b.count → beat_in M b j ≡ 0
-    → m.live ≡ true → Quiet m → stand_at m ch ≡ idle → IsLawful m.width b → follow_after M ch (busy b j) m ≡ moved ch (stand_below M (busy b j)) m
+    → m.live ≡ true → Quiet m → stand_at m ch ≡ idle → IsLawful m.width b → follow_after M ch (busy b j) m ≡ with_stand ch (stand_below M (busy b j)) m
 starts M ch b j m law some most left zero live quiet free fit =
     let run = run_of M b j in
     let taken = (run_stands M b j law some left).taken m ch live free fit most in
-    let told = told_at M b j some left in
-    let place : stand_below M (busy b j) ≡ busy run 0 = stood_at M b j some left ∙ ap (busy run) zero in
-    let moved = opened_moved ch run m quiet free in
+    let told = run_at_beat M b j some left in
+    let place : stand_below M (busy b j) ≡ busy run 0 = stand_at_beat M b j some left ∙ ap (busy run) zero in
+    let first = opened_with_stand ch run m quiet free in
     cc
 
 -- after beat j the slave below follows to beat j + 1, or both are idle
 pub goes_on : (M : ℕ) (ch : Channel) (b : RawBurst) (j : ℕ) (m : Meaning) → IsLawful 8 b → 0 < M → M ≤ m.most → j < b.count
     → m.live ≡ true → Quiet m → stand_at m ch ≡ past (run_of M b j) (beat_in M b j) → IsLawful m.width b
-    → follow_after M ch (past b j) m ≡ moved ch (stand_below M (past b j)) m
+    → follow_after M ch (past b j) m ≡ with_stand ch (stand_below M (past b j)) m
 goes_on M ch b j m law some most left live quiet at fit =
     let run = run_of M b j in
     let i = beat_in M b j in
     let own : Bool → Stand = λ t. cond t (busy b (j + 1)) idle in
     let there : Bool → Stand = λ t. cond t (busy run (i + 1)) idle in
-    let turned : (t : Bool) → ltb (j + 1) b.count ≡ t → follow_after M ch (own t) m ≡ moved ch (stand_below M (own t)) m
-    → follow_after M ch (past b j) m ≡ moved ch (stand_below M (past b j)) m =
-    λ t e. subst (λ u. follow_after M ch (own u) m ≡ moved ch (stand_below M (own u)) m) (sym e) in
+    let turned : (t : Bool) → ltb (j + 1) b.count ≡ t → follow_after M ch (own t) m ≡ with_stand ch (stand_below M (own t)) m
+    → follow_after M ch (past b j) m ≡ with_stand ch (stand_below M (past b j)) m =
+    λ t e. subst (λ u. follow_after M ch (own u) m ≡ with_stand ch (stand_below M (own u)) m) (sym e) in
     ⊎_elim
     (λ lt. let nl = next_left M b j law some left lt in
     let place : busy run (i + 1) ≡ busy (run_of M b (j + 1)) (beat_in M b (j + 1)) =
     ap (λ x. busy x (i + 1)) (sym (next_run M b j law some left lt)) ∙ ap (busy (run_of M b (j + 1))) (sym (next_beat M b j law some left lt)) in
     turned true (lt-ltb (j + 1) b.count nl)
-    (stood M ch (busy b (j + 1)) m (at ∙ ap there (lt-ltb (i + 1) run.count lt) ∙ place ∙ sym (stood_at M b (j + 1) some nl))))
+    (stays_stand M ch (busy b (j + 1)) m (at ∙ ap there (lt-ltb (i + 1) run.count lt) ∙ place ∙ sym (stand_at_beat M b (j + 1) some nl))))
     (λ ge. let free : stand_at m ch ≡ idle = at ∙ ap there (le-ltb (i + 1) run.count ge) in
     ⊎_elim
     (λ nl. turned true (lt-ltb (j + 1) b.count nl) (starts M ch b (j + 1) m law some most nl (next_new M b j law some left ge nl) live quiet free fit))
-    (λ end. turned false (le-ltb (j + 1) b.count end) (stood M ch idle m free))
+    (λ end. turned false (le-ltb (j + 1) b.count end) (stays_stand M ch idle m free))
     (cases_lt (j + 1) b.count))
     (cases_lt (i + 1) run.count)

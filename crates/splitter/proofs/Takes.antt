@@ -1,8 +1,8 @@
 -- What a take answers and leaves.
-use Rattle.std.proofs.Common.{◌≡◌, ℕ, ◌+◌, ◌<◌, ◌≤◌, true, cond, ltb, Option, Some, None, Ok, Err, sym, refl, ap, ◌∙◌, subst, arith}
+use Rattle.std.proofs.Common.{◌≡◌, ℕ, ◌+◌, ◌<◌, ◌≤◌, true, cond, ltb, Option, Some, None, Ok, Err, Result, sym, refl, ap, ◌∙◌, subst, arith}
 use Rattle.std.proofs.lemmas.Bool.Decides.{nat_tests}
 use Rattle.burst.specs.declared.raw.RawBurst.{RawBurst}
-use Rattle.burst.specs.Beats.{IsLawful, raw_of}
+use Rattle.burst.specs.Beats.{IsLawful, cover_of, raw_of}
 use Rattle.slave.specs.declared.answer.Response.{Response}
 use Rattle.slave.specs.declared.answer.SlaveFault.{SlaveFault}
 use Rattle.slave.specs.declared.answer.SlaveFault.TheVariants.{NotOpen}
@@ -21,8 +21,8 @@ use Rattle.splitter.specs.Fits.{stand_below}
 use Rattle.splitter.specs.Shows.{split_shows, splits}
 use Rattle.splitter.specs.Follows.{follow_after}
 use Rattle.splitter.proofs.Walks.{run_cover}
-use Rattle.splitter.proofs.Places.{stood_at, Fitting, moved, goes_on}
-use Rattle.splitter.proofs.Opens.{Stood, Left, left_by, beat_sound}
+use Rattle.splitter.proofs.Places.{stand_at_beat, Fitting, with_stand, goes_on}
+use Rattle.splitter.proofs.Opens.{Holds, Leaves, leaves_by, beat_sound}
 
 -- a take where no read is open
 take_none : (m : Meaning) → m.live ≡ true → m.read ≡ idle → take_answer m ≡ Err NotOpen
@@ -30,6 +30,9 @@ take_none m l e = cc
 
 left_is : (b : RawBurst) (j : ℕ) (v : Response) → given_left (cond (ltb (j + 1) b.count) (More (left b j)) (Done v)) ≡ left b j
 left_is b j v = grind (arith, nat_tests)
+
+triple : (p q : ℕ × Response) (l k : ℕ) → p ≡ q → l ≡ k → ◌≡◌ {A = Result (ℕ × Response × ℕ) SlaveFault} (Ok (p.0, p.1, l)) (Ok (q.0, q.1, k))
+triple p q l k e f = ap (λ x. Ok (x.0, x.1, l)) e ∙ ap (λ y. Ok (q.0, q.1, y)) f
 
 -- taking beat j
 module _ (M : ℕ) (w : Stand) (kept : Response) (b : RawBurst) (j : ℕ) (m : Meaning) (sound : Sound m) (law8 : IsLawful 8 b)
@@ -44,7 +47,7 @@ module _ (M : ℕ) (w : Stand) (kept : Response) (b : RawBurst) (j : ℕ) (m : M
   here = open_left m.width (busy b j) b j opens refl
 
   taken : (take_answer m ≡ Ok (took_answer m run i)) × (take_after m ≡ with_read (past run i) m)
-  taken = take_taken m run i live (stand ∙ stood_at M b j some here)
+  taken = take_taken m run i live (stand ∙ stand_at_beat M b j some here)
 
   answers : (word : ℕ) (resp : Response) (lf : ℕ) (v y : Response) → Ok (word, resp, lf) ≡ take_answer m → (given : Given) → Ok given ≡ step_answer (busy b j) v (Beat y)
       → Ok (word, resp, given_left given) ≡ take_answer (split_shows w kept (busy b j) m)
@@ -52,16 +55,18 @@ module _ (M : ℕ) (w : Stand) (kept : Response) (b : RawBurst) (j : ℕ) (m : M
       let e = h ∙ taken.0 in
       let parts : ◌≡◌ {A = ℕ × Response × ℕ} (word, resp, lf) (took_answer m run i) = cc in
       let given_is : given ≡ cond (ltb (j + 1) b.count) (More (left b j)) (Done (worse v y)) = cc in
-      ap (λ x. Ok (word, resp, x)) (ap given_left given_is ∙ left_is b j (worse v y)) ∙ ap (λ x. Ok (x.0, x.1, left b j)) parts
-      ∙ ap (λ k. Ok (read_word (board m) m.width k, read_worst (board m) m.width k, left b j)) (run_cover M b j law8 some here)
+      let last : given_left given ≡ left b j = ap given_left given_is ∙ left_is b j (worse v y) in
+      let shown : ◌≡◌ {A = ℕ × Response} (word, resp) (read_word (board m) m.width (cover_of b j), read_worst (board m) m.width (cover_of b j)) =
+      subst (λ k. ◌≡◌ {A = ℕ × Response} (word, resp) (read_word (board m) m.width k, read_worst (board m) m.width k)) (run_cover M b j law8 some here) (ap (λ x. (x.0, x.1)) parts) in
+      triple (word, resp) (read_word (board m) m.width (cover_of b j), read_worst (board m) m.width (cover_of b j)) (given_left given) (left b j) shown last
 
-  follows : M ≤ m.most → follow_after M Read (past b j) (take_after m) ≡ moved Read (stand_below M (past b j)) (with_read (past run i) m)
+  follows : M ≤ m.most → follow_after M Read (past b j) (take_after m) ≡ with_stand Read (stand_below M (past b j)) (with_read (past run i) m)
   follows most =
       ap (follow_after M Read (past b j)) taken.1
       ∙ goes_on M Read b j (with_read (past run i) m) law8 some most here live sound.quiet refl (open_lawful m.width (busy b j) b j opens refl)
 
 -- a take at any place
-module _ {M W : ℕ} {c : Channels} {m : Meaning} (own : Stood M W c m) where
+module _ {M W : ℕ} {c : Channels} {m : Meaning} (own : Holds M W c m) where
   abbrev f : Fitting M c m
   f = own.fits
 
@@ -97,7 +102,7 @@ module _ {M W : ℕ} {c : Channels} {m : Meaning} (own : Stood M W c m) where
     -- what is taken below is taken here: d is the record after the beat, over the slave below n
     pub took : (d : Channels) → told d.read.place ≡ step_place (told c.read.place) (Beat y) → d.write ≡ c.write → (n : Meaning) → n ≡ follow_after M Read (told d.read.place) (take_after m)
         → ((given : Given) → Ok given ≡ step_answer (told c.read.place) v (Beat y) → Ok (word, resp, given_left given) ≡ take_answer (splits c m))
-        × Left M W Read d (take_after m) n (take_after (splits c m))
+        × Leaves M W Read d (take_after m) n (take_after (splits c m))
     took d place same n e = by c.read.place (f.stand Read) lawful place
       where
         after : sound_stand W (told d.read.place) ≡ true
@@ -105,7 +110,7 @@ module _ {M W : ℕ} {c : Channels} {m : Meaning} (own : Stood M W c m) where
 
         by : (p : Option OpenBurst) → m.read ≡ stand_below M (told p) → sound_stand m.width (told p) ≡ true → told d.read.place ≡ step_place (told p) (Beat y)
             → ((given : Given) → Ok given ≡ step_answer (told p) v (Beat y) → Ok (word, resp, given_left given) ≡ take_answer (split_shows w kept (told p) m))
-            × Left M W Read d (take_after m) n (take_after (split_shows w kept (told p) m))
+            × Leaves M W Read d (take_after m) n (take_after (split_shows w kept (told p) m))
         by None q o place = let e = h ∙ take_none m f.live q in cc
         by (Some t) q o place =
             let b = raw_of t.burst in
@@ -113,8 +118,8 @@ module _ {M W : ℕ} {c : Channels} {m : Meaning} (own : Stood M W c m) where
             let x : Meaning = split_shows w kept (busy b j) m in
             let z : Meaning = with_read (past (run_of M b j) (beat_in M b j)) m in (
               answers M w kept b j m sound t.burst.lawful f.live f.some q o word resp lf v y h,
-              left_by own Read d (take_after m) n (take_after x) z after same refl refl refl refl e
+              leaves_by own Read d (take_after m) n (take_after x) z after same refl refl refl refl e
                   (ap (λ u. follow_after M Read u (take_after m)) place ∙ follows M w kept b j m sound t.burst.lawful f.live f.some q o f.most
-                  ∙ ap (λ u. moved Read (stand_below M u) z) (sym place))
+                  ∙ ap (λ u. with_stand Read (stand_below M u) z) (sym place))
                   (ap (λ u. split_shows (told u.place) u.worst (told d.read.place) m) same ∙ ap (λ u. split_shows w kept u m) place ∙ sym (take_taken x b j refl refl).1),
             )
