@@ -4,9 +4,9 @@ use Rattle.slave.specs.Meaning.{Meaning}
 use Rattle.ram.specs.declared.calls.Ram.{Ram}
 use Rattle.ram.specs.Memory.{kind_at}
 use Rattle.ram.specs.Shows.{ram_made, ram_meaning}
-use Rattle.splitter.specs.declared.adapter.Splitter.{Splitter}
+use Rattle.splitter.specs.declared.splitter.Splitter.{Splitter}
 use Rattle.splitter.specs.Making.{make_answer, made_as}
-use Rattle.splitter.specs.Splits.{number_of, shows as split_shows}
+use Rattle.splitter.specs.Shows.{number_of, shows as split_shows}
 use Rattle.converter.specs.declared.state.Converter.{Converter}
 use Rattle.converter.specs.Converters.{converter_shows as converted_shows}
 use Rattle.converter.specs.Shows.{converted_made}

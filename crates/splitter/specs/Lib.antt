@@ -2,10 +2,7 @@
 pub mod Runs
 pub mod Laws
 pub mod Fits
-pub mod Follows
+pub mod Shows
 pub mod Making
-pub mod Splits
-pub mod ShowsLemmas
-pub mod Walks
-pub mod Places
-pub mod Joined
+pub mod Follows
+pub mod Sound

@@ -3,9 +3,9 @@ use Rattle.std.proofs.lemmas.Bool.{lt-ltb}
 use Rattle.burst.specs.declared.raw.RawBurst.{RawBurst}
 use Rattle.burst.specs.Beats.{raw_of, IsLawful, address_of, address_answer}
 use Rattle.splitter.specs.Runs.{part_first, part_end, run_first, run_of, beat_in, run_answer}
-use Rattle.splitter.specs.Walks.{beat_is, run_base, base_le}
-use Rattle.splitter.specs.Places.{run_told}
-use Rattle.splitter.specs.Joined.{runs_stand, worked}
+use Rattle.splitter.proofs.Walks.{beat_is, run_base, base_le}
+use Rattle.splitter.proofs.Places.{run_at_beat}
+use Rattle.splitter.proofs.Joined.{runs_stand, worked}
 use Rattle.splitter.proofs.runs.run_at.Goals as goal
 
 -- the run as the code makes it
@@ -20,7 +20,7 @@ ran M b j first end beat start law some left f e is at =
     let there : address_answer b (j - beat) ≡ Some (address_of b (run_first M b j)) =
     ap (address_answer b) base ∙ ap (λ t. cond t (Some (address_of b (run_first M b j))) None) (lt-ltb (run_first M b j) b.count within) in
     let starts : start ≡ address_of b (run_first M b j) = cc in
-    let told = run_told M b j some left in
+    let told = run_at_beat M b j some left in
     cc
 
 pub returns-clause-answer : goal.returns-clause-answer

@@ -1,5 +1,5 @@
 -- The runs of a burst: where their beats lie.
-use Rattle.std.specs.Prelude.{◌≡◌, ℕ, ◌+◌, ◌-◌, ◌*◌, ◌/◌, ◌%◌, ◌^◌, ◌<◌, ◌≤◌, cond, ◌⊎◌, ◌==◌, nat_lt}
+use Rattle.std.specs.Prelude.{◌≡◌, ℕ, ◌+◌, ◌-◌, ◌*◌, ◌/◌, ◌%◌, ◌^◌, ◌<◌, ◌≤◌, cond, ◌⊎◌, ◌==◌, nat_lt, refl}
 use native.Mathlib.Omega.{arith}
 use Rattle.std.proofs.Math.Nat.{add-mul}
 use Rattle.std.proofs.Common.{mul-div_cancel, zero-add, ◌∙◌}
@@ -9,7 +9,8 @@ use Rattle.std.proofs.Math.Arith.{digits_div}
 use Rattle.std.proofs.lemmas.Nat.{div-add-mod', mod_below, pow_pos}
 use Rattle.std.proofs.lemmas.Bool.{cases_lt, cases_eq, lt-ltb, le-ltb}
 use Rattle.burst.specs.declared.raw.RawBurst.{RawBurst}
-use Rattle.burst.specs.Beats.{IsLawful, address_of, last_of, incr_address, wrap_address}
+use Rattle.burst.specs.Rules.{KeepsPage}
+use Rattle.burst.specs.Beats.{IsLawful, address_of, last_of, last_from, cover_of, incr_address, wrap_address}
 use Rattle.burst.proofs.Facts.{Facts, facts, round_power, size_fits, incr_lawful}
 use Rattle.burst.proofs.Walks.{incr_incr, incr_page, aligned_incr, low_aligned, wrap_first, wrap_second, first_page, second_page}
 use Rattle.splitter.specs.Runs.{turn, part_of, part_first, part_end, run_first, run_of, beat_in}
@@ -20,9 +21,19 @@ pub record Part (b : RawBurst) (j F S : ℕ) : Type 0 where
   pub high : j < S
   pub within : S ≤ b.count
   pub straight : (x : ℕ) → F + x < S → address_of b (F + x) ≡ incr_address (address_of b F) (2 ^ b.size) x
-  pub page : address_of b F % 4096 + (S - F) * 2 ^ b.size ≤ 4096
+  pub page : KeepsPage (address_of b F) (2 ^ b.size) (S - F)
   pub same : (i : ℕ) → F ≤ i → i < S → (part_first b i ≡ F) × (part_end b i ≡ S)
   pub fresh : S < b.count → part_first b S ≡ S
+
+-- the same beats keep to their page alike
+keeps : (a c N m n : ℕ) → a ≡ c → m ≡ n → KeepsPage a N m → KeepsPage c N n
+keeps a c N m n e f h = subst (λ x. KeepsPage x N n) e (subst (KeepsPage a N) f h)
+
+-- beats of one size at one address cover the same
+pub cover_same : (r b : RawBurst) (i j : ℕ) → r.size ≡ b.size → address_of r i ≡ address_of b j → cover_of r i ≡ cover_of b j
+unfolding last_of
+cover_same r b i j s a =
+    ap (λ y. record { first = address_of r i; last = last_from (address_of r i) (2 ^ y) }) s ∙ ap (λ x. record { first = x; last = last_from x (2 ^ b.size) }) a
 
 at_kind : {A : Type 0} (k : ℕ) (x y z : A) → (k ≡ 0 → cond (k == 0) x (cond (k == 1) y z) ≡ x) × (k ≡ 1 → cond (k == 0) x (cond (k == 1) y z) ≡ y) × (k ≡ 2 → cond (k == 0) x (cond (k == 1) y z) ≡ z)
 at_kind k x y z = (λ e. cc, λ e. cc, λ e. cc)
@@ -48,7 +59,7 @@ module _ (b : RawBurst) (lawful : IsLawful 8 b) where
         high = omega arith;
         within = omega arith;
         straight = λ x l. let a = at (j + x) in let z : x ≡ 0 = omega arith in let a0 = at j in cc;
-        page = omega (arith, ap (λ y. y % 4096) (at j), known.fixed k, ap (λ y. y * N) (let z : j + 1 - j ≡ 1 = omega arith in z));
+        page = keeps b.start (address_of b j) N 1 (j + 1 - j) (sym (at j)) (omega arith) (known.fixed k);
         same = λ i l u. let p = (at_part i).0 k in let e : i ≡ j = omega arith in (cc, cc);
         fresh = λ _. let p = (at_part (j + 1)).0 k in cc;
       }
@@ -63,7 +74,7 @@ module _ (b : RawBurst) (lawful : IsLawful 8 b) where
         high = h;
         within = omega arith;
         straight = λ x l. let a = at (0 + x) in let z = zero-add x in cc;
-        page = omega (arith, ap (λ y. y % 4096) at0, known.incr k, ap (λ y. y * N) (let z : b.count - 0 ≡ b.count = omega arith in z));
+        page = keeps b.start (address_of b 0) N b.count (b.count - 0) (sym at0) (omega arith) (known.incr k);
         same = λ i l u. let p = (at_part i).1 k in (cc, cc);
         fresh = λ l. absurd (omega arith);
       }
@@ -83,7 +94,7 @@ module _ (b : RawBurst) (lawful : IsLawful 8 b) where
         high = u;
         within = omega arith;
         straight = λ x l. let a = at (0 + x) l in let z = zero-add x in let e = aligned_incr b.start N x al in cc;
-        page = omega (arith, ap (λ y. y % 4096) at0, first_page b.start N b.count pos some al p.0 p.1 p.2, ap (λ y. y * N) (let z : turn b - 0 ≡ turn b = omega arith in z));
+        page = keeps b.start (address_of b 0) N (turn b) (turn b - 0) (sym at0) (omega arith) (first_page b.start N b.count pos some al p.0 p.1 p.2);
         same = λ i l v. let p = (at_part i).2 k in let t = lt-ltb i (turn b) v in (cc, cc);
         fresh = λ l. let p = (at_part (turn b)).2 k in let t = le-ltb (turn b) (turn b) (omega arith) in cc;
       }
@@ -105,7 +116,7 @@ module _ (b : RawBurst) (lawful : IsLawful 8 b) where
         high = h;
         within = omega arith;
         straight = λ x l. let a = at x l in let e = aligned_incr low N x (low_aligned b.start N b.count) in cc;
-        page = omega (arith, ap (λ y. y % 4096) at0, second_page b.start N b.count pos some al p.0 p.1 p.2);
+        page = subst (λ y. KeepsPage y N (b.count - turn b)) (sym at0) (second_page b.start N b.count pos some al p.0 p.1 p.2);
         same = λ i l v. let p = (at_part i).2 k in let t = le-ltb i (turn b) l in (cc, cc);
         fresh = λ l. absurd (omega arith);
       }
@@ -184,18 +195,18 @@ module _ (M : ℕ) (b : RawBurst) (j : ℕ) (lawful : IsLawful 8 b) (some : 0 < 
       let z : F + (x + i) ≡ F + x + i = omega arith in
       cc
 
-  pub run_address : address_of (run_of M b j) (beat_in M b j) ≡ address_of b j
-  run_address = let walk = run_walk (beat_in M b j) run_has in let base = run_base in cc
+  pub run_size : (run_of M b j).size ≡ b.size
+  unfolding run_of
+  run_size = refl
 
-  pub run_last : last_of (run_of M b j) (beat_in M b j) ≡ last_of b j
-  unfolding last_of run_of
-  run_last = let e = run_address in cc
+  pub run_cover : cover_of (run_of M b j) (beat_in M b j) ≡ cover_of b j
+  run_cover = cover_same (run_of M b j) b (beat_in M b j) j run_size (run_walk (beat_in M b j) run_has ∙ ap (address_of b) run_base)
 
-  run_page : (run_of M b j).start % 4096 + (run_of M b j).count * 2 ^ b.size ≤ 4096
+  run_page : KeepsPage (run_of M b j).start (2 ^ b.size) (run_of M b j).count
   unfolding run_of run_first
   run_page =
       let l = length.inside in
-      subst (λ a. a % 4096 + (run_of M b j).count * 2 ^ b.size ≤ 4096) (sym (P.straight x (omega (arith, base_low, P.high))))
+      subst (λ a. KeepsPage a (2 ^ b.size) (run_of M b j).count) (sym (P.straight x (omega (arith, base_low, P.high))))
       (incr_page (address_of b F) (2 ^ b.size) x (run_of M b j).count (S - F) (pow_pos b.size) P.page (omega arith) (omega (arith, run_has)))
 
   -- it is lawful wherever the burst is

@@ -1,16 +1,16 @@
 -- The runs of a burst, joined, are its beats in order; no run is refused; and one split worked out.
-use Rattle.std.specs.Prelude.{◌≡◌, ℕ, zero, suc, ◌+◌, ◌-◌, ◌*◌, ◌/◌, ◌^◌, ◌<◌, ◌≤◌, ◌∷◌, ◌++◌, refl}
+use Rattle.std.specs.Prelude.{◌≡◌, ℕ, zero, suc, ◌+◌, ◌-◌, ◌<◌, ◌≤◌, ◌∷◌, ◌++◌, refl}
 use native.Mathlib.Omega.{arith}
 use Rattle.std.proofs.Common.{add-zero, zero-add, sym, ◌∙◌, subst}
 use Rattle.std.proofs.Math.Path.{ap}
 use Rattle.std.proofs.Math.Logic.{⊎_elim}
 use Rattle.std.proofs.lemmas.Bool.{cases_lt, lt-ltb, le-ltb}
 use Rattle.burst.specs.declared.raw.RawBurst.{RawBurst}
-use Rattle.burst.specs.Beats.{IsLawful, address_of, last_of}
+use Rattle.burst.specs.Beats.{IsLawful, address_of, cover_of}
 use Rattle.slave.proofs.Calls.{short_incr, open_taken}
 use Rattle.splitter.specs.Runs.{part_first, part_end, run_first, run_of, beat_in, runs_from, runs, beats_from, beats, joined}
 use Rattle.splitter.specs.Laws.{RunStands, RunsStand, WorkedSplit}
-use Rattle.splitter.specs.Walks.{run_base, run_has, run_short, run_walk, run_inside, run_address, run_last, run_lawful, next_run, next_beat, next_left, next_new}
+use Rattle.splitter.proofs.Walks.{cover_same, run_base, run_has, run_short, run_walk, run_inside, run_size, run_cover, run_lawful, next_run, next_beat, next_left, next_new}
 
 -- the worked split
 pub worked : WorkedSplit
@@ -28,18 +28,13 @@ beats-++ b j (suc c) d =
 
 -- two bursts with the same size and addresses cover the same
 beats_same : (b r : RawBurst) (k j c : ℕ) → r.size ≡ b.size → ((i : ℕ) → i < c → address_of r (k + i) ≡ address_of b (j + i)) → beats_from r k c ≡ beats_from b j c
-unfolding beats_from last_of
+unfolding beats_from
 beats_same b r k j zero s h = refl
 beats_same b r k j (suc c) s h =
     let a : address_of r k ≡ address_of b j = ap (address_of r) (sym (add-zero k)) ∙ h 0 (omega arith) ∙ ap (address_of b) (add-zero j) in
-    ap (λ x. (x, x / 2 ^ r.size * 2 ^ r.size + 2 ^ r.size - 1) ∷ beats_from r (k + 1) c) a
-    ∙ ap (λ y. (address_of b j, address_of b j / 2 ^ y * 2 ^ y + 2 ^ y - 1) ∷ beats_from r (k + 1) c) s
-    ∙ ap (λ l. (address_of b j, last_of b j) ∷ l)
+    ap (λ x. x ∷ beats_from r (k + 1) c) (cover_same r b k j s a)
+    ∙ ap (λ l. cover_of b j ∷ l)
     (beats_same b r (k + 1) (j + 1) c s (λ i l. ap (address_of r) (let e : k + 1 + i ≡ k + (i + 1) = omega arith in e) ∙ h (i + 1) (omega arith) ∙ ap (address_of b) (let e : j + (i + 1) ≡ j + 1 + i = omega arith in e)))
-
-size_same : (M : ℕ) (b : RawBurst) (j : ℕ) → (run_of M b j).size ≡ b.size
-unfolding run_of
-size_same M b j = refl
 
 module _ (M : ℕ) (b : RawBurst) (lawful : IsLawful 8 b) (some : 0 < M) where
   -- the beats of the run that begins at beat j
@@ -74,7 +69,7 @@ module _ (M : ℕ) (b : RawBurst) (lawful : IsLawful 8 b) (some : 0 < M) where
   run_beats : (j : ℕ) → j < b.count → beat_in M b j ≡ 0 → beats (run_of M b j) ≡ beats_from b j (run_of M b j).count
   run_beats j h z =
       let base : run_first M b j ≡ j = omega (arith, run_base M b j lawful some h) in
-      beats_same b (run_of M b j) 0 j (run_of M b j).count (size_same M b j)
+      beats_same b (run_of M b j) 0 j (run_of M b j).count (run_size M b j lawful some h)
       (λ i l. ap (address_of (run_of M b j)) (zero-add i) ∙ run_walk M b j lawful some h i l ∙ ap (λ x. address_of b (x + i)) base)
 
   from_start : (f j : ℕ) → b.count ≤ j + f → j ≤ b.count → (j < b.count → beat_in M b j ≡ 0) → joined (runs_from f M b j) ≡ beats_from b j (b.count - j)
@@ -113,8 +108,7 @@ run_stands M b j law some left = record {
   few = run_short M b j law some left;
   lawful = run_lawful M b j law some left;
   has = run_has M b j law some left;
-  first = run_address M b j law some left;
-  last = run_last M b j law some left;
+  same = run_cover M b j law some left;
   taken = λ m ch live free fit most. (open_taken m ch (run_of M b j) live free (run_lawful M b j law some left m.width fit)
       (short_incr m.full m.most (run_of M b j) (incr_is M b j) (omega (arith, run_short M b j law some left)))).0;
 }
