@@ -9,7 +9,7 @@ use Rattle.ram.specs.Memory.{kind_at}
 use Rattle.ram.specs.Shows.{shows}
 use Rattle.ram.specs.declared.calls.Ram.{Ram}
 use Rattle.splitter.specs.declared.adapter.Splitter.{Splitter}
-use Rattle.converter.specs.declared.state.Converter.{Converter}
+use Rattle.converter.specs.declared.converter.Converter.{Converter}
 use Rattle.register.specs.declared.held.Held.{Held}
 use Rattle.register.specs.declared.slice.RegisterSlice.{RegisterSlice}
 use Rattle.register.specs.Holds.{behind}

@@ -7,9 +7,9 @@ use Rattle.ram.specs.Shows.{ram_made, ram_meaning}
 use Rattle.splitter.specs.declared.adapter.Splitter.{Splitter}
 use Rattle.splitter.specs.Making.{make_answer, made_as}
 use Rattle.splitter.specs.Splits.{number_of, shows as split_shows}
-use Rattle.converter.specs.declared.state.Converter.{Converter}
-use Rattle.converter.specs.Converters.{converter_shows as converted_shows}
-use Rattle.converter.specs.Shows.{converted_made}
+use Rattle.converter.specs.declared.converter.Converter.{Converter}
+use Rattle.converter.specs.Shows.{converter_shows as converted_shows}
+use Rattle.converter.specs.Making.{converted_made}
 use Rattle.register.specs.declared.slice.RegisterSlice.{RegisterSlice}
 use Rattle.register.specs.Holds.{slice_made, shows as slice_shows}
 use Rattle.history.specs.Bytes.{Board}

@@ -2,7 +2,7 @@
 ghost use Rattle.std.specs.Prelude.{◌≡◌, ◌+◌, ◌%◌, Some, None, if◌then◌else◌};
 ghost use Rattle.burst.specs.Beats.{covers};
 ghost use Rattle.burst.specs.Rules.{width_bytes};
-ghost use Rattle.converter.specs.Spans.{moved_word, moved_strobe};
+ghost use Rattle.converter.specs.Sent.{moved_word, moved_strobe};
 ghost use Rattle.slave.specs.Lanes.{lane_byte};
 
 use burst::{Cover, Width};
