@@ -54,7 +54,8 @@ impl BusBeat {
 
     // Its pieces over a bus, each a beat there.
     pub(crate) fn pieces(self, below: Width) -> Pieces
-        ensures left { pieces_left (width_bytes result.bus) result.rest ≡ pieces (width_bytes below) self.cover.first self.cover.last }
+        ensures left { pieces_left (width_bytes result.bus) result.rest
+            ≡ pieces (width_bytes below) self.cover.first self.cover.last }
         ensures size { result.size ≡ min self.size (code_of (width_bytes below)) }
         ensures bus { result.bus ≡ below }
     {

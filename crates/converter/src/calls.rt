@@ -37,7 +37,8 @@ impl<S: Slave> Slave for Converter<S> {
     // Beside what the interface says, each call says what it does to the slave below, and keeps the width.
     fn open(&mut self, channel: Channel, burst: RawBurst) -> Result<(), SlaveFault>
         ensures answer { result ≡ open_answer (converter_shows S.meaning self.old) channel burst }
-        ensures after { converter_shows S.meaning self.new ≡ open_after (converter_shows S.meaning self.old) channel burst }
+        ensures after { converter_shows S.meaning self.new
+            ≡ open_after (converter_shows S.meaning self.old) channel burst }
         ensures below { below_of self.new ≡ below_of self.old }
         ensures width { width_of self.new ≡ width_of self.old }
         ensures refused { is_ok result ≡ false → self.new ≡ self.old }
@@ -53,8 +54,10 @@ impl<S: Slave> Slave for Converter<S> {
     // A stray strobe is refused before anything goes down.
     fn give(&mut self, word: u64, strobe: u8) -> Result<Given, SlaveFault>
         ensures answer { result ≡ give_answer (converter_shows S.meaning self.old) word strobe }
-        ensures after { converter_shows S.meaning self.new ≡ give_after (converter_shows S.meaning self.old) word strobe }
-        ensures below { S.meaning (below_of self.new) ≡ sent_below (converter_shows S.meaning self.old) (S.meaning (below_of self.old)) word strobe }
+        ensures after { converter_shows S.meaning self.new
+            ≡ give_after (converter_shows S.meaning self.old) word strobe }
+        ensures below { S.meaning (below_of self.new) ≡ sent_below
+            (converter_shows S.meaning self.old) (S.meaning (below_of self.old)) word strobe }
         ensures width { width_of self.new ≡ width_of self.old }
         ensures refused { is_ok result ≡ false → self.new ≡ self.old }
     {
@@ -67,9 +70,11 @@ impl<S: Slave> Slave for Converter<S> {
 
     fn take(&mut self) -> Result<(u64, Response, u16), SlaveFault>
         ensures answer { result ≡ take_answer (converter_shows S.meaning self.old) }
-        ensures after { converter_shows S.meaning self.new ≡ take_after (converter_shows S.meaning self.old) }
+        ensures after { converter_shows S.meaning self.new
+            ≡ take_after (converter_shows S.meaning self.old) }
         ensures below { S.meaning (below_of self.new) ≡ S.meaning (below_of self.old) }
-        ensures fetched { IfOk result (λ x. (x.0, x.1, S.meaning (below_of self.new)) ≡ fetched_below (converter_shows S.meaning self.old) (S.meaning (below_of self.old))) }
+        ensures fetched { IfOk result (λ x. (x.0, x.1, S.meaning (below_of self.new))
+            ≡ fetched_below (converter_shows S.meaning self.old) (S.meaning (below_of self.old))) }
         ensures width { width_of self.new ≡ width_of self.old }
         ensures refused { is_ok result ≡ false → self.new ≡ self.old }
     {

@@ -49,7 +49,8 @@ impl<S: Slave> Converter<S> {
     pub(crate) fn begin(&mut self, channel: Channel, burst: Burst)
         requires free { (state_at channel self.old.channels).place ≡ None }
         requires lawful { IsLawful (width_bytes self.old.width) (raw_of burst) }
-        ensures after { converter_shows S.meaning self.new ≡ opened channel (raw_of burst) (converter_shows S.meaning self.old) }
+        ensures after { converter_shows S.meaning self.new
+            ≡ opened channel (raw_of burst) (converter_shows S.meaning self.old) }
         ensures below { below_of self.new ≡ below_of self.old }
         ensures width { width_of self.new ≡ width_of self.old }
     {
@@ -59,7 +60,8 @@ impl<S: Slave> Converter<S> {
     // Whether a strobe leaves the lanes of the next beat of the open write.
     pub(crate) fn strays(&self, at: OpenBurst, strobe: u8) -> bool
         requires { self.now.channels.write.place ≡ Some at }
-        ensures { result ≡ stray (width_bytes self.now.width) (address_of (raw_of at.burst) at.taken) (last_of (raw_of at.burst) at.taken) strobe }
+        ensures { result ≡ stray (width_bytes self.now.width)
+            (address_of (raw_of at.burst) at.taken) (last_of (raw_of at.burst) at.taken) strobe }
     {
         at.strays(self.width, strobe)
     }
@@ -72,10 +74,14 @@ impl<S: Slave> Converter<S> {
         strobe: u8,
     ) -> Result<Given, SlaveFault>
         requires stands { self.old.channels.write.place ≡ Some at }
-        requires kept { stray (width_bytes self.old.width) (address_of (raw_of at.burst) at.taken) (last_of (raw_of at.burst) at.taken) strobe ≡ false }
+        requires kept { stray (width_bytes self.old.width)
+            (address_of (raw_of at.burst) at.taken) (last_of (raw_of at.burst) at.taken) strobe
+            ≡ false }
         ensures answer { result ≡ give_answer (converter_shows S.meaning self.old) word strobe }
-        ensures after { converter_shows S.meaning self.new ≡ give_after (converter_shows S.meaning self.old) word strobe }
-        ensures below { S.meaning (below_of self.new) ≡ sent_below (converter_shows S.meaning self.old) (S.meaning (below_of self.old)) word strobe }
+        ensures after { converter_shows S.meaning self.new
+            ≡ give_after (converter_shows S.meaning self.old) word strobe }
+        ensures below { S.meaning (below_of self.new) ≡ sent_below
+            (converter_shows S.meaning self.old) (S.meaning (below_of self.old)) word strobe }
         ensures width { width_of self.new ≡ width_of self.old }
         ensures taken { is_ok result ≡ true }
     {
@@ -88,9 +94,11 @@ impl<S: Slave> Converter<S> {
     pub(crate) fn take_beat(&mut self, at: OpenBurst) -> (u64, Response, u16)
         requires { self.old.channels.read.place ≡ Some at }
         ensures answer { Ok result ≡ take_answer (converter_shows S.meaning self.old) }
-        ensures after { converter_shows S.meaning self.new ≡ take_after (converter_shows S.meaning self.old) }
+        ensures after { converter_shows S.meaning self.new
+            ≡ take_after (converter_shows S.meaning self.old) }
         ensures below { S.meaning (below_of self.new) ≡ S.meaning (below_of self.old) }
-        ensures fetched { (result.0, result.1, S.meaning (below_of self.new)) ≡ fetched_below (converter_shows S.meaning self.old) (S.meaning (below_of self.old)) }
+        ensures fetched { (result.0, result.1, S.meaning (below_of self.new))
+            ≡ fetched_below (converter_shows S.meaning self.old) (S.meaning (below_of self.old)) }
         ensures width { width_of self.new ≡ width_of self.old }
     {
         let beat = BusBeat::next_of(at, self.width);

@@ -22,7 +22,8 @@ impl<S: Slave + Drop> Converter<S> {
     // A converter over a slave, or the first rule that is broken.
     pub fn new(below: S, width: u8) -> Result<Converter<S>, MakeFault>
         ensures answer { answered result ≡ make_refusal (S.Slave.meaning below) width }
-        ensures shown { made (converter_shows S.Slave.meaning) result ≡ converted_made (S.Slave.meaning below) width }
+        ensures shown { made (converter_shows S.Slave.meaning) result
+            ≡ converted_made (S.Slave.meaning below) width }
         ensures below { IfOk result (λ c. below_of c ≡ below) }
     {
         Ok(Converter {

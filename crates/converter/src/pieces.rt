@@ -38,12 +38,16 @@ fn send_piece<S: Slave>(
 ) -> Response
     requires ready { ready (S.Slave.meaning below.old) ≡ true }
     requires bus { width_bytes piece.bus ≡ (S.Slave.meaning below.old).width }
-    ensures worst { result ≡ write_worst (board (S.Slave.meaning below.old)) (width_bytes piece.bus) piece.cover
-        (cut_strobe (width_bytes own) (width_bytes piece.bus) strobe piece.cover.first piece.cover.last) }
-    ensures after { S.Slave.meaning below.new
-        ≡ with_write idle Okay (written (board (S.Slave.meaning below.old)) (width_bytes own) piece.cover word strobe) (S.Slave.meaning below.old) }
+    ensures worst { result
+        ≡ write_worst (board (S.Slave.meaning below.old)) (width_bytes piece.bus) piece.cover
+        (cut_strobe (width_bytes own) (width_bytes piece.bus) strobe
+        piece.cover.first piece.cover.last) }
+    ensures after { S.Slave.meaning below.new ≡ with_write idle Okay
+        (written (board (S.Slave.meaning below.old)) (width_bytes own) piece.cover word strobe)
+        (S.Slave.meaning below.old) }
     ensures sent { S.Slave.meaning below.new
-        ≡ sent_piece piece.size (width_bytes own) word strobe (S.Slave.meaning below.old) piece.cover.first piece.cover.last }
+        ≡ sent_piece piece.size (width_bytes own) word strobe (S.Slave.meaning below.old)
+        piece.cover.first piece.cover.last }
 {
     let down = Move {
         cover: piece.cover,
@@ -58,12 +62,15 @@ fn send_piece<S: Slave>(
 fn fetch_piece<S: Slave>(below: &mut S, piece: BusBeat, base: u32, word: u64) -> (u64, Response)
     requires ready { ready (S.Slave.meaning below.old) ≡ true }
     requires bus { width_bytes piece.bus ≡ (S.Slave.meaning below.old).width }
-    ensures word { result.0 ≡ moved_word word (read_word (board (S.Slave.meaning below.old)) (width_bytes piece.bus) piece.cover)
+    ensures word { result.0 ≡ moved_word word
+        (read_word (board (S.Slave.meaning below.old)) (width_bytes piece.bus) piece.cover)
         base piece.cover.first piece.cover.last (width_bytes piece.bus) }
-    ensures worst { result.1 ≡ read_worst (board (S.Slave.meaning below.old)) (width_bytes piece.bus) piece.cover }
+    ensures worst { result.1
+        ≡ read_worst (board (S.Slave.meaning below.old)) (width_bytes piece.bus) piece.cover }
     ensures after { S.Slave.meaning below.new ≡ S.Slave.meaning below.old }
     ensures got { (result.0, result.1, S.Slave.meaning below.new)
-        ≡ fetched_piece piece.size base (S.Slave.meaning below.old) word piece.cover.first piece.cover.last }
+        ≡ fetched_piece piece.size base (S.Slave.meaning below.old) word
+        piece.cover.first piece.cover.last }
 {
     let _ = below.open(Channel::Read, piece.alone());
     let (got, response) = got(below.take());
@@ -80,10 +87,14 @@ fn fetch_piece<S: Slave>(below: &mut S, piece: BusBeat, base: u32, word: u64) ->
 pub(crate) fn send<S: Slave>(slave: &mut S, beat: BusBeat, word: u64, strobe: u8) -> Response
     requires ready { ready (S.Slave.meaning slave.old) ≡ true }
     requires kept { stray (width_bytes beat.bus) beat.cover.first beat.cover.last strobe ≡ false }
-    ensures worst { result ≡ write_worst (board (S.Slave.meaning slave.old)) (width_bytes beat.bus) beat.cover strobe }
-    ensures after { S.Slave.meaning slave.new
-        ≡ with_write idle Okay (written (board (S.Slave.meaning slave.old)) (width_bytes beat.bus) beat.cover word strobe) (S.Slave.meaning slave.old) }
-    ensures sent { S.Slave.meaning slave.new ≡ sent_beat beat.size (width_bytes beat.bus) word strobe (S.Slave.meaning slave.old) beat.cover }
+    ensures worst { result
+        ≡ write_worst (board (S.Slave.meaning slave.old)) (width_bytes beat.bus) beat.cover strobe }
+    ensures after { S.Slave.meaning slave.new ≡ with_write idle Okay
+        (written (board (S.Slave.meaning slave.old)) (width_bytes beat.bus) beat.cover word strobe)
+        (S.Slave.meaning slave.old) }
+    ensures sent { S.Slave.meaning slave.new
+        ≡ sent_beat beat.size (width_bytes beat.bus) word strobe (S.Slave.meaning slave.old)
+        beat.cover }
 {
     let mut worst = Response::Okay;
     for piece in beat.pieces(slave.width()) {
@@ -96,10 +107,13 @@ pub(crate) fn send<S: Slave>(slave: &mut S, beat: BusBeat, word: u64, strobe: u8
 // The slave below ends where the pieces, fetched one after the other, leave it: as it was.
 pub(crate) fn fetch<S: Slave>(slave: &mut S, beat: BusBeat) -> (u64, Response)
     requires { ready (S.Slave.meaning slave.old) ≡ true }
-    ensures word { result.0 ≡ read_word (board (S.Slave.meaning slave.old)) (width_bytes beat.bus) beat.cover }
-    ensures worst { result.1 ≡ read_worst (board (S.Slave.meaning slave.old)) (width_bytes beat.bus) beat.cover }
+    ensures word { result.0
+        ≡ read_word (board (S.Slave.meaning slave.old)) (width_bytes beat.bus) beat.cover }
+    ensures worst { result.1
+        ≡ read_worst (board (S.Slave.meaning slave.old)) (width_bytes beat.bus) beat.cover }
     ensures after { S.Slave.meaning slave.new ≡ S.Slave.meaning slave.old }
-    ensures got { (result.0, result.1, S.Slave.meaning slave.new) ≡ fetched_beat beat.size (width_bytes beat.bus) (S.Slave.meaning slave.old) beat.cover }
+    ensures got { (result.0, result.1, S.Slave.meaning slave.new)
+        ≡ fetched_beat beat.size (width_bytes beat.bus) (S.Slave.meaning slave.old) beat.cover }
 {
     let base = beat.word_start();
     let mut word = 0;
