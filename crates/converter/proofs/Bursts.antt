@@ -8,10 +8,10 @@ use Rattle.burst.specs.declared.raw.Width.{Width}
 use Rattle.burst.specs.declared.raw.BurstKind.{BurstKind}
 use Rattle.burst.specs.declared.raw.BurstKind.TheVariants.{Fixed, Incr, Wrap}
 use Rattle.burst.specs.declared.checked.Burst.{Burst}
-use Rattle.burst.specs.Rules.{width_bytes, kind_code, refusal}
+use Rattle.burst.specs.Rules.{width_bytes, kind_code, refusal, KeepsPage}
 use Rattle.burst.specs.Beats.{address_of, last_of, wrap_address, raw_of, IsLawful}
 use Rattle.burst.proofs.Facts.{facts, size_fits, width_power}
-use Rattle.converter.specs.Pieces.{Room, Beat}
+use Rattle.converter.specs.Pieces.{Beat}
 use Rattle.converter.proofs.Cuts.{aligned_page}
 use Rattle.burst.proofs.Masks.{below_4}
 
@@ -39,18 +39,18 @@ wrap_aligned a s n j hs hn e =
     )
 
 -- every beat of a checked burst keeps the page rule alone
-page_at : (kd : BurstKind) (a s n j : ℕ) → refusal 8 (kind_code kd) a s n ≡ 0 → Room (address_of (record { kind = kind_code kd; start = a; size = s; count = n }) j) (2 ^ s)
+page_at : (kd : BurstKind) (a s n j : ℕ) → refusal 8 (kind_code kd) a s n ≡ 0 → KeepsPage (address_of (record { kind = kind_code kd; start = a; size = s; count = n }) j) (2 ^ s) 1
 unfolding address_of
 page_at Fixed a s n j h = omega (arith, (facts 0 a s n h).fixed refl)
 page_at Incr a s n j h =
     let F = facts 1 a s n h in
-    cond_both (j == 0) a (a / 2 ^ s * 2 ^ s + j * 2 ^ s) (λ x. Room x (2 ^ s))
+    cond_both (j == 0) a (a / 2 ^ s * 2 ^ s + j * 2 ^ s) (λ x. KeepsPage x (2 ^ s) 1)
     (λ _. omega (arith, F.incr refl, mul-le 1 (2 ^ s) n (2 ^ s) F.low (let r : 2 ^ s ≤ 2 ^ s = omega arith in r)))
-    (λ _. subst (λ x. Room x (2 ^ s)) (add-mul (a / 2 ^ s) j (2 ^ s)) (aligned_page s F.size (a / 2 ^ s + j)))
+    (λ _. subst (λ x. KeepsPage x (2 ^ s) 1) (add-mul (a / 2 ^ s) j (2 ^ s)) (aligned_page s F.size (a / 2 ^ s + j)))
 page_at Wrap a s n j h =
     let F = facts 2 a s n h in
     let q = wrap_aligned a s n j F.size F.low (F.aligned refl) in
-    subst (λ x. Room x (2 ^ s)) (sym q.1) (aligned_page s F.size q.0)
+    subst (λ x. KeepsPage x (2 ^ s) 1) (sym q.1) (aligned_page s F.size q.0)
 
 -- a beat of an open burst
 pub beat_of : (W : Width) (b : Burst) (k : ℕ) → IsLawful (width_bytes W) (raw_of b) → Beat (width_bytes W) (address_of (raw_of b) k) (last_of (raw_of b) k) b.size

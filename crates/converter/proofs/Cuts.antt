@@ -1,5 +1,5 @@
 -- Where the pieces of a beat lie.
-use Rattle.std.specs.Prelude.{◌≡◌, ℕ, ◌+◌, ◌-◌, ◌*◌, ◌/◌, ◌^◌, ◌<◌, ◌≤◌, Bool, true, false, cond, Some, None, refl}
+use Rattle.std.specs.Prelude.{◌≡◌, ℕ, ◌+◌, ◌-◌, ◌*◌, ◌/◌, ◌^◌, ◌<◌, ◌≤◌, min, Bool, true, false, cond, Some, None, refl}
 use Rattle.std.proofs.Common.{arith, ltb, sym, subst, pow_mono}
 use Rattle.std.proofs.lemmas.Bool.{ltb-true}
 use Rattle.std.proofs.lemmas.Bool.Decides.{nat_tests}
@@ -7,12 +7,17 @@ use Rattle.burst.specs.declared.raw.Cover.{Cover}
 use Rattle.std.proofs.lemmas.Nat.{div-add-mod', mod_below, pow_pos}
 use Rattle.burst.specs.declared.raw.Width.{Width}
 use Rattle.burst.specs.declared.raw.Width.TheVariants.{One, Two, Four, Eight}
-use Rattle.burst.specs.Rules.{width_bytes}
-use Rattle.burst.specs.Beats.{last_from, IsLawful}
+use Rattle.burst.specs.Rules.{width_bytes, KeepsPage}
+use Rattle.burst.specs.Beats.{last_from, incr_burst, IsLawful}
 use Rattle.burst.proofs.Facts.{InWord, block_in_block, width_some, width_power, code_le, base_le}
 use Rattle.converter.specs.declared.beat.BusBeat.{BusBeat}
-use Rattle.converter.specs.Pieces.{Room, Cuttable, behind, width_code, smaller, piece_end, piece_burst, Beat}
+use Rattle.converter.specs.Fits.{Cuttable}
+use Rattle.converter.specs.Pieces.{behind, code_of, piece_end, Beat}
 use Rattle.burst.proofs.Masks.{below_4}
+
+-- the size code of a bus of this width
+abbrev pub width_code : Width → ℕ
+width_code V = code_of (width_bytes V)
 
 -- a bus has 2 to the power of its size code bytes
 pub width_is_power : (W : Width) → width_bytes W ≡ 2 ^ width_code W
@@ -30,40 +35,33 @@ code_small Eight = omega arith
 
 -- a piece ends where a beat of its own ends
 abbrev CutAt : ℕ → ℕ → Type 0
-CutAt s k = (f a l : ℕ) → l ≡ last_from f (2 ^ s) → f ≤ a → a ≤ l → piece_end (2 ^ k) l a ≡ last_from a (2 ^ smaller s k)
+CutAt s k = (f a l : ℕ) → l ≡ last_from f (2 ^ s) → f ≤ a → a ≤ l → piece_end (2 ^ k) l a ≡ last_from a (2 ^ min s k)
 
 -- so it is for every size of a beat and every width below
 cut_at : (s : ℕ) → s ≤ 3 → (k : ℕ) → k ≤ 3 → CutAt s k
 cut_at s hs k hk =
     below_4 (λ t. CutAt t k)
-    (below_4 (CutAt 0) (λ f a l e p q. grind (arith, nat_tests)) (λ f a l e p q. grind (arith, nat_tests)) (λ f a l e p q. grind (arith, nat_tests)) (λ f a l e p q. grind (arith, nat_tests)) k hk)
-    (below_4 (CutAt 1) (λ f a l e p q. grind (arith, nat_tests)) (λ f a l e p q. grind (arith, nat_tests)) (λ f a l e p q. grind (arith, nat_tests)) (λ f a l e p q. grind (arith, nat_tests)) k hk)
-    (below_4 (CutAt 2) (λ f a l e p q. grind (arith, nat_tests)) (λ f a l e p q. grind (arith, nat_tests)) (λ f a l e p q. grind (arith, nat_tests)) (λ f a l e p q. grind (arith, nat_tests)) k hk)
-    (below_4 (CutAt 3) (λ f a l e p q. grind (arith, nat_tests)) (λ f a l e p q. grind (arith, nat_tests)) (λ f a l e p q. grind (arith, nat_tests)) (λ f a l e p q. grind (arith, nat_tests)) k hk)
+    (below_4 (CutAt 0) (λ f a l e p q. omega arith) (λ f a l e p q. omega arith) (λ f a l e p q. omega arith) (λ f a l e p q. omega arith) k hk)
+    (below_4 (CutAt 1) (λ f a l e p q. omega arith) (λ f a l e p q. omega arith) (λ f a l e p q. omega arith) (λ f a l e p q. omega arith) k hk)
+    (below_4 (CutAt 2) (λ f a l e p q. omega arith) (λ f a l e p q. omega arith) (λ f a l e p q. omega arith) (λ f a l e p q. omega arith) k hk)
+    (below_4 (CutAt 3) (λ f a l e p q. omega arith) (λ f a l e p q. omega arith) (λ f a l e p q. omega arith) (λ f a l e p q. omega arith) k hk)
     s hs
 
 -- a multiple of a power of two leaves room for it in its page
-pub aligned_page : (c : ℕ) → c ≤ 3 → (q : ℕ) → Room (q * 2 ^ c) (2 ^ c)
-aligned_page c h = below_4 (λ i. (q : ℕ) → Room (q * 2 ^ i) (2 ^ i)) (λ q. omega arith) (λ q. omega arith) (λ q. omega arith) (λ q. omega arith) c h
+pub aligned_page : (c : ℕ) → c ≤ 3 → (q : ℕ) → KeepsPage (q * 2 ^ c) (2 ^ c) 1
+aligned_page c h = below_4 (λ i. (q : ℕ) → KeepsPage (q * 2 ^ i) (2 ^ i) 1) (λ q. omega arith) (λ q. omega arith) (λ q. omega arith) (λ q. omega arith) c h
 
 -- so does what follows a piece
-pub next_page : (a c : ℕ) → c ≤ 3 → Room (last_from a (2 ^ c) + 1) (2 ^ c)
-next_page a c h = below_4 (λ i. Room (last_from a (2 ^ i) + 1) (2 ^ i)) (omega arith) (omega arith) (omega arith) (omega arith) c h
-
--- the smaller of two is at most each
-pub smaller_l : (a b : ℕ) → smaller a b ≤ a
-smaller_l a b = grind (arith, nat_tests)
-
-pub smaller_r : (a b : ℕ) → smaller a b ≤ b
-smaller_r a b = grind (arith, nat_tests)
+pub next_page : (a c : ℕ) → c ≤ 3 → KeepsPage (last_from a (2 ^ c) + 1) (2 ^ c) 1
+next_page a c h = below_4 (λ i. KeepsPage (last_from a (2 ^ i) + 1) (2 ^ i) 1) (omega arith) (omega arith) (omega arith) (omega arith) c h
 
 -- a piece ends within its beat
 pub end_inside : (v l a : ℕ) → piece_end v l a ≤ l
-end_inside v l a = smaller_r (a / v * v + (v - 1)) l
+end_inside v l a = omega arith
 
 -- and has one byte at least
 pub end_order : (v l a : ℕ) → 0 < v → a ≤ l → a ≤ piece_end v l a
-end_order v l a some al = let m = mod_below a v some in let d = div-add-mod' a v in grind (arith, nat_tests)
+end_order v l a some al = let m = mod_below a v some in let d = div-add-mod' a v in omega arith
 
 -- the size code of a beat is at most that of its bus
 pub size_le : (w f l s : ℕ) → Beat w f l s → s ≤ 3
@@ -73,7 +71,7 @@ size_le w f l s b =
     omega (arith, h, p.1)
 
 -- a beat on a bus of some width
-pub as_beat : (W : Width) (f l s : ℕ) → 2 ^ s ≤ width_bytes W → l ≡ last_from f (2 ^ s) → Room f (2 ^ s) → Beat (width_bytes W) f l s
+pub as_beat : (W : Width) (f l s : ℕ) → 2 ^ s ≤ width_bytes W → l ≡ last_from f (2 ^ s) → KeepsPage f (2 ^ s) 1 → Beat (width_bytes W) f l s
 as_beat W f l s fits last page = record { wide = width_power W; fits = fits; last = last; page = page }
 
 pub beat_on : (x : BusBeat) → Beat (width_bytes x.bus) x.cover.first x.cover.last x.size
@@ -94,7 +92,7 @@ beat_word w f l s b =
     })
 
 -- a beat goes down alone as a lawful burst
-pub beat_lawful : (w f l s : ℕ) → Beat w f l s → IsLawful w (piece_burst s f)
+pub beat_lawful : (w f l s : ℕ) → Beat w f l s → IsLawful w (incr_burst f s 1)
 beat_lawful w f l s b = let p = b.fits in let q = b.page in grind (arith, nat_tests)
 
 -- a beat has at most eight bytes
@@ -105,16 +103,16 @@ eight w f l s b =
     omega (arith, iw.inside, iw.small)
 
 -- the size code of a beat's pieces fits the bus below
-pub code_fits : (s : ℕ) (V : Width) → 2 ^ smaller s (width_code V) ≤ width_bytes V
-code_fits s V = subst (λ x. 2 ^ smaller s (width_code V) ≤ x) (sym (width_is_power V)) (pow_mono (smaller_r s (width_code V)))
+pub code_fits : (s : ℕ) (V : Width) → 2 ^ min s (width_code V) ≤ width_bytes V
+code_fits s V = subst (λ x. 2 ^ min s (width_code V) ≤ x) (sym (width_is_power V)) (pow_mono (let h : min s (width_code V) ≤ width_code V = omega arith in h))
 
 -- before its first piece, the whole of a beat is left
-pub whole_cuttable : (w f l s : ℕ) (V : Width) → Beat w f l s → Cuttable (width_bytes V) (smaller s (width_code V)) l f
+pub whole_cuttable : (w f l s : ℕ) (V : Width) → Beat w f l s → Cuttable (width_bytes V) (min s (width_code V)) l f
 whole_cuttable w f l s V b =
-    let p : 2 ^ smaller s (width_code V) ≤ 2 ^ s = pow_mono (smaller_l s (width_code V)) in (
+    let p : 2 ^ min s (width_code V) ≤ 2 ^ s = pow_mono (let h : min s (width_code V) ≤ s = omega arith in h) in (
       (beat_word w f l s b).order,
       omega (arith, b.page, p),
-      λ x lo hi. subst (λ v. piece_end v l x ≡ last_from x (2 ^ smaller s (width_code V))) (sym (width_is_power V)) (cut_at s (size_le w f l s b) (width_code V) (code_small V) f x l b.last lo hi),
+      λ x lo hi. subst (λ v. piece_end v l x ≡ last_from x (2 ^ min s (width_code V))) (sym (width_is_power V)) (cut_at s (size_le w f l s b) (width_code V) (code_small V) f x l b.last lo hi),
     )
 
 -- what is left from a to l, for a bus that the size code fits
@@ -127,7 +125,7 @@ module _ (V : Width) (c l a : ℕ) (fits : 2 ^ c ≤ width_bytes V) (cut : Cutta
   pub cut_next : piece_end (width_bytes V) l a < l → Cuttable (width_bytes V) c l (piece_end (width_bytes V) l a + 1)
   cut_next lt = (
     omega arith,
-    subst (λ x. Room (x + 1) (2 ^ c)) (sym cut_beat.last) (next_page a c (size_le (width_bytes V) a (piece_end (width_bytes V) l a) c cut_beat)),
+    subst (λ x. KeepsPage (x + 1) (2 ^ c) 1) (sym cut_beat.last) (next_page a c (size_le (width_bytes V) a (piece_end (width_bytes V) l a) c cut_beat)),
     λ x lo hi. cut.2 x (omega (arith, end_order (width_bytes V) l a (width_some V) cut.0)) hi,
   )
 

@@ -1,11 +1,12 @@
 -- The pieces of what is left of a beat, one after the other.
-use Rattle.std.proofs.Common.{◌≡◌, ℕ, zero, suc, ◌+◌, ◌-◌, ◌^◌, ◌<◌, ◌≤◌, Bool, true, false, cond, ltb, List, [], ◌∷◌, Some, None, sym, refl, ap, ◌∙◌, arith}
+use Rattle.std.proofs.Common.{◌≡◌, ℕ, zero, suc, ◌+◌, ◌-◌, ◌^◌, ◌<◌, ◌≤◌, min, Bool, true, false, cond, ltb, List, [], ◌∷◌, Some, None, sym, refl, ap, ◌∙◌, arith}
 use Rattle.std.proofs.lemmas.Bool.{cond_both, ltb-true, ltb-false}
 use Rattle.burst.specs.declared.raw.Width.{Width}
 use Rattle.burst.specs.Rules.{width_bytes}
 use Rattle.burst.proofs.Facts.{width_some}
-use Rattle.converter.specs.Pieces.{Beat, Cuttable, InOrder, width_code, smaller, piece_end, pieces_from, pieces, behind, pieces_left}
-use Rattle.converter.proofs.Cuts.{beat_word, eight, code_fits, whole_cuttable, cut_beat, cut_next, end_inside, end_order}
+use Rattle.converter.specs.Fits.{Cuttable}
+use Rattle.converter.specs.Pieces.{Beat, InOrder, piece_end, pieces_from, pieces, behind, pieces_left}
+use Rattle.converter.proofs.Cuts.{width_code, beat_word, eight, code_fits, whole_cuttable, cut_beat, cut_next, end_inside, end_order}
 
 same_if : {A : Type 0} (t : Bool) (x y : List A) → (t ≡ true → x ≡ y) → cond t x [] ≡ cond t y []
 same_if true x y h = h refl
@@ -61,8 +62,8 @@ in_order_from (suc n) c l a V fits cut ln =
     )
 
 -- each piece follows the one before, from the beat's first byte to its last, and is one beat for the bus below
-pub in_order : (w f l s : ℕ) (V : Width) → Beat w f l s → InOrder (width_bytes V) (smaller s (width_code V)) l (pieces (width_bytes V) f l) f
-in_order w f l s V b = in_order_from 8 (smaller s (width_code V)) l f V (code_fits s V) (whole_cuttable w f l s V b) (eight w f l s b)
+pub in_order : (w f l s : ℕ) (V : Width) → Beat w f l s → InOrder (width_bytes V) (min s (width_code V)) l (pieces (width_bytes V) f l) f
+in_order w f l s V b = in_order_from 8 (min s (width_code V)) l f V (code_fits s V) (whole_cuttable w f l s V b) (eight w f l s b)
 
 -- pieces in order do not pass the beat's end
 pub end_after : (v c l : ℕ) (ps : List (ℕ × ℕ)) (a : ℕ) → InOrder v c l ps a → a ≤ l + 1

@@ -1,6 +1,7 @@
 pub mod Cuts
 pub mod Left
 pub mod Bursts
+pub mod Spans
 pub mod Ranks
 pub mod Moves
 pub mod One

@@ -1,20 +1,18 @@
 -- The pieces of a beat cover its bytes once and in order, and none is refused below.
-use Rattle.std.proofs.Common.{◌≡◌, ℕ, ◌+◌, ◌*◌, ◌/◌, ◌≤◌, true, false, cond, List, [], ◌∷◌, Ok, sym, refl, ap, ◌∙◌, subst, arith}
+use Rattle.std.proofs.Common.{◌≡◌, ℕ, ◌+◌, ◌≤◌, true, false, cond, List, [], ◌∷◌, sym, refl, ap, ◌∙◌, subst, arith}
 use Rattle.std.proofs.lemmas.Bool.Decides.{nat_tests}
 use Rattle.burst.specs.declared.raw.Width.{Width}
 use Rattle.burst.specs.declared.raw.Width.TheVariants.{Eight}
 use Rattle.burst.specs.declared.checked.Burst.{Burst}
 use Rattle.burst.specs.Rules.{width_bytes}
-use Rattle.burst.specs.Beats.{raw_of, address_of, last_of, covers}
+use Rattle.burst.specs.Beats.{raw_of, address_of, last_of, covers, incr_burst}
 use Rattle.slave.specs.declared.answer.Channel.TheVariants.{Write, Read}
 use Rattle.slave.specs.Making.{ready}
-use Rattle.slave.specs.Meaning.{Meaning, Sound}
+use Rattle.slave.specs.Meaning.{Meaning, board, Sound}
 use Rattle.slave.specs.Acts.{open_after, give_answer, give_after, take_answer, take_after}
 use Rattle.burst.proofs.Facts.{InWord}
-use Rattle.slave.specs.Lanes.{stray, write_worst, read_word, read_worst}
-use Rattle.slave.specs.declared.answer.Given.TheVariants.{Done}
-use Rattle.converter.specs.Pieces.{Beat, pieces_from, piece_burst, InOrder, hits, Each}
-use Rattle.converter.specs.Spans.{moved_word, moved_strobe}
+use Rattle.converter.specs.Pieces.{Beat, pieces_from, InOrder, hits, Each}
+use Rattle.converter.specs.Sent.{cut_word, cut_strobe}
 use Rattle.converter.specs.Laws.{Taken, PiecesLie, pieces_of, code_below}
 use Rattle.converter.proofs.Cuts.{beat_word}
 use Rattle.converter.proofs.Moves.{piece_kept}
@@ -43,16 +41,14 @@ taken_one m c w v a e sound still same b =
     let V : ℕ = m.width in
     let iw = subst (λ x. InWord x a e) same (beat_word v a e c b) in
     record {
-      opens = λ ch. (opened_one m c a sound still law ch).0;
+      opens = λ ch. (opened_one m c a e b.last sound still law ch).0;
       gives = λ word s.
-          let cut : ℕ = moved_word 0 word (a / m.width * m.width) a e w in
-          let bits : ℕ = moved_strobe s (a / m.width * m.width) a e w in
-          let n : Meaning = open_after m Write (piece_burst c a) in
-          write_answer m c a sound still law n (give_after n cut bits) cut bits (give_answer n cut bits)
-          (ap (λ l. stray m.width a l bits) (sym b.last) ∙ piece_kept m w a e word s iw) refl refl refl
-          ∙ ap (λ l. Ok (Done (write_worst m a l bits))) (sym b.last);
-      takes = let n : Meaning = open_after m Read (piece_burst c a) in
-          read_answer m c a sound still law n (take_after n) (take_answer n) refl refl refl ∙ ap (λ l. Ok (read_word m a l, read_worst m a l, 0)) (sym b.last);
+          let cut : ℕ = cut_word w m.width word a e in
+          let bits : ℕ = cut_strobe w m.width s a e in
+          let n : Meaning = open_after m Write (incr_burst a c 1) in
+          write_answer m c a e b.last sound still law n (give_after n cut bits) cut bits (give_answer n cut bits) (piece_kept (board m) m.width w a e word s iw) refl refl refl;
+      takes = let n : Meaning = open_after m Read (incr_burst a c 1) in
+          read_answer m c a e b.last sound still law n (take_after n) (take_answer n) refl refl refl;
     }
 
 -- so no piece of a list in order is refused

@@ -7,7 +7,7 @@ use Rattle.slave.specs.declared.answer.Response.{Response}
 use Rattle.slave.specs.declared.answer.Response.TheVariants.{Okay, SlvErr, DecErr}
 use Rattle.slave.specs.Lanes.{rank, worse, worst_lane}
 use Rattle.burst.specs.Beats.{covers}
-use Rattle.converter.specs.Spans.{spans, span_worst}
+use Rattle.converter.proofs.Spans.{spans, span_worst}
 
 -- the response with a number
 named : ℕ → Response

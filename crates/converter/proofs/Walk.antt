@@ -1,23 +1,23 @@
 -- A beat sent down or fetched piece by piece: what holds between two pieces.
-use Rattle.std.proofs.Common.{◌≡◌, ℕ, ◌+◌, ◌*◌, ◌/◌, ◌≤◌, true, List, [], ◌∷◌, sym, refl, ap, ◌∙◌, subst, arith}
+use Rattle.std.proofs.Common.{◌≡◌, ℕ, ◌+◌, ◌*◌, ◌/◌, ◌≤◌, min, true, false, List, [], ◌∷◌, sym, refl, ap, ◌∙◌, subst, arith}
 use Rattle.burst.specs.declared.raw.Width.{Width}
 use Rattle.burst.specs.Rules.{width_bytes}
 use Rattle.burst.proofs.Facts.{base_le}
 use Rattle.slave.specs.declared.answer.Response.{Response}
 use Rattle.slave.specs.declared.answer.Response.TheVariants.{Okay}
 use Rattle.slave.specs.Making.{ready}
-use Rattle.slave.specs.Meaning.{Meaning, Sound, idle, is_idle, with_write}
-use Rattle.slave.specs.Lanes.{worse, shown}
+use Rattle.slave.specs.Meaning.{Meaning, board, Sound, idle, is_idle, with_write}
+use Rattle.slave.specs.Lanes.{stray, worse, shown, read_word, read_worst, write_worst, written}
 use Rattle.slave.proofs.Words.{shown_small}
 use Rattle.slave.proofs.Calls.{ready_parts}
 use Rattle.converter.specs.declared.beat.BusBeat.{BusBeat}
 use Rattle.converter.specs.declared.beat.Pieces.{Pieces}
-use Rattle.converter.specs.Pieces.{InOrder, width_code, code_of, smaller, pieces, pieces_left}
-use Rattle.converter.specs.Sent.{sent_piece, sent_all, sent_beat, fetched_piece, fetched_after, fetched_all, fetched_beat}
-use Rattle.converter.specs.Spans.{span_worst, span_word, wrote, wrote_at, read_at, worst_over, word_over, wrote_over, moved_word}
-use Rattle.converter.proofs.Cuts.{beat_word, beat_on}
+use Rattle.converter.specs.Pieces.{InOrder, code_of, pieces, pieces_left}
+use Rattle.converter.specs.Sent.{moved_word, cut_strobe, sent_piece, sent_all, sent_beat, fetched_piece, fetched_all, fetched_beat}
+use Rattle.converter.proofs.Spans.{span_worst, span_word, wrote, wrote_at, read_at, worst_over, word_over, wrote_over}
+use Rattle.converter.proofs.Cuts.{width_code, beat_word, beat_on}
 use Rattle.converter.proofs.Left.{begin, begin_is, end_after, in_order}
-use Rattle.converter.proofs.Moves.{wrote_join, wrote_none, word_join, word_none}
+use Rattle.converter.proofs.Moves.{piece_worst, whole_worst, wrote_all, wrote_join, wrote_none, read_part, read_worst_spans, word_join, word_none}
 use Rattle.converter.proofs.Ranks.{span_join, span_none}
 
 -- a slave that differs from a ready one in its bytes is ready
@@ -31,16 +31,16 @@ left it = pieces_left (width_bytes it.bus) it.rest
 -- q has all pieces of the beat b over the bus of a slave m
 pub record AllOf (b : BusBeat) (m : Meaning) (q : Pieces) : Type 0 where
   pub left : left q ≡ pieces (width_bytes q.bus) b.cover.first b.cover.last
-  pub size : q.size ≡ smaller b.size (width_code q.bus)
+  pub size : q.size ≡ min b.size (width_code q.bus)
   pub width : width_bytes q.bus ≡ m.width
 
 pub all_of : (b : BusBeat) (m : Meaning) (q p : Pieces) (V : Width) → q ≡ p → pieces_left (width_bytes p.bus) p.rest ≡ pieces (width_bytes V) b.cover.first b.cover.last
-    → p.size ≡ smaller b.size (width_code V) → p.bus ≡ V → width_bytes V ≡ m.width → AllOf b m q
+    → p.size ≡ min b.size (width_code V) → p.bus ≡ V → width_bytes V ≡ m.width → AllOf b m q
 all_of b m q p V same l s v w =
     let bus : q.bus ≡ V = ap (λ x. x.bus) same ∙ v in
     record {
       left = ap left same ∙ l ∙ ap (λ x. pieces (width_bytes x) b.cover.first b.cover.last) (sym bus);
-      size = ap (λ x. x.size) same ∙ s ∙ ap (λ x. smaller b.size (width_code x)) (sym bus);
+      size = ap (λ x. x.size) same ∙ s ∙ ap (λ x. min b.size (width_code x)) (sym bus);
       width = ap width_bytes bus ∙ w;
     }
 
@@ -62,7 +62,7 @@ module _ (b : BusBeat) (q : Pieces) where
     all_order : InOrder (width_bytes q.bus) q.size b.cover.last (left q) b.cover.first
     all_order =
         subst (λ c. InOrder (width_bytes q.bus) c b.cover.last (left q) b.cover.first) (sym all.size)
-        (subst (λ ps. InOrder (width_bytes q.bus) (smaller b.size (width_code q.bus)) b.cover.last ps b.cover.first) (sym all.left) (in_order (width_bytes b.bus) b.cover.first b.cover.last b.size q.bus (beat_on b)))
+        (subst (λ ps. InOrder (width_bytes q.bus) (min b.size (width_code q.bus)) b.cover.last ps b.cover.first) (sym all.left) (in_order (width_bytes b.bus) b.cover.first b.cover.last b.size q.bus (beat_on b)))
 
     first_at : b.cover.first ≡ at q
     first_at = sym (begin_is (width_bytes q.bus) q.size b.cover.last (left q) b.cover.first all_order)
@@ -121,7 +121,7 @@ module _ (b : BusBeat) (q : Pieces) where
       pub all : AllOf b m q
       pub going : Going it
       pub worst : r ≡ span_worst (wrote_at (width_bytes b.bus) m.kinds k) (b.cover.first / width_bytes b.bus * width_bytes b.bus) b.cover.first (at it)
-      pub below : n ≡ with_write idle Okay (wrote (width_bytes b.bus) m b.cover.first (at it) word k) m
+      pub below : n ≡ with_write idle Okay (wrote (width_bytes b.bus) (board m) b.cover.first (at it) word k) m
       pub sent : sent_all q.size (width_bytes b.bus) word k n (left it) ≡ sent_all q.size (width_bytes b.bus) word k m (left q)
 
     pub sending_first : AllOf b m q → Sound m → ready m ≡ true → Sending q Okay m
@@ -134,15 +134,15 @@ module _ (b : BusBeat) (q : Pieces) where
               ∙ ap (span_worst (wrote_at (width_bytes b.bus) m.kinds k) (b.cover.first / width_bytes b.bus * width_bytes b.bus) b.cover.first) (first_at m all);
           below = ap (λ p. with_write p m.worst m.bytes m) free
               ∙ ap (λ r. with_write idle r m.bytes m) (sound.quiet (ap is_idle free))
-              ∙ ap (λ g. with_write idle Okay g m) (wrote_none m (width_bytes b.bus) b.cover.first word k)
-              ∙ ap (λ x. with_write idle Okay (wrote (width_bytes b.bus) m b.cover.first x word k) m) (first_at m all);
+              ∙ ap (λ g. with_write idle Okay g m) (wrote_none (board m) (width_bytes b.bus) b.cover.first word k)
+              ∙ ap (λ x. with_write idle Okay (wrote (width_bytes b.bus) (board m) b.cover.first x word k) m) (first_at m all);
           sent = refl;
         }
 
     pub sending_next : (it it' : Pieces) (p : BusBeat) (n n' : Meaning) (r here : Response) → Sending it r n
         → left it ≡ (p.cover.first, p.cover.last) ∷ left it' → p.size ≡ it.size → it'.bus ≡ it.bus → it'.size ≡ it.size
-        → here ≡ worst_over (wrote_at (width_bytes b.bus) n.kinds k) (width_bytes p.bus) p.cover
-        → n' ≡ wrote_over (width_bytes b.bus) n p.cover word k
+        → here ≡ write_worst (board n) (width_bytes p.bus) p.cover (cut_strobe (width_bytes b.bus) (width_bytes p.bus) k p.cover.first p.cover.last)
+        → n' ≡ with_write idle Okay (written (board n) (width_bytes b.bus) p.cover word k) n
         → n' ≡ sent_piece p.size (width_bytes b.bus) word k n p.cover.first p.cover.last
         → (all : Response) → all ≡ worse r here → Sending it' all n'
     unfolding sent_all
@@ -153,24 +153,29 @@ module _ (b : BusBeat) (q : Pieces) where
         record {
           all = h.all;
           going = next_going it it' p h.going step bus size;
-          worst = all-is ∙ next_worst it it' p h.going step (wrote_at w m.kinds k) r here h.worst (here-is ∙ ap (λ x. worst_over (wrote_at w x.kinds k) (width_bytes p.bus) p.cover) h.below);
-          below = after-is ∙ ap (λ x. wrote_over w x p.cover word k) (h.below ∙ ap (λ x. with_write idle Okay (wrote w m b.cover.first x word k) m) at')
-              ∙ ap (λ g. with_write idle Okay g m) (wrote_join m w b.cover.first p.cover.first (p.cover.last + 1) word k low' (omega (arith, some it it' p h.going step)))
-              ∙ ap (λ x. with_write idle Okay (wrote w m b.cover.first x word k) m) (sym (next_at it it' p h.going step));
+          worst = all-is ∙ next_worst it it' p h.going step (wrote_at w m.kinds k) r here h.worst (here-is
+              ∙ piece_worst (board n) (width_bytes p.bus) w p.cover.first p.cover.last word k (beat_word (width_bytes p.bus) p.cover.first p.cover.last p.size (beat_on p))
+              ∙ ap (λ x. worst_over (wrote_at w x.kinds k) (width_bytes p.bus) p.cover) h.below);
+          below = after-is ∙ ap (λ g. with_write idle Okay g n) (sym (wrote_all (board n) w p.cover.first p.cover.last word k))
+              ∙ ap (λ x. wrote_over w x p.cover word k) (h.below ∙ ap (λ x. with_write idle Okay (wrote w (board m) b.cover.first x word k) m) at')
+              ∙ ap (λ g. with_write idle Okay g m) (wrote_join (board m) w b.cover.first p.cover.first (p.cover.last + 1) word k low' (omega (arith, some it it' p h.going step)))
+              ∙ ap (λ x. with_write idle Okay (wrote w (board m) b.cover.first x word k) m) (sym (next_at it it' p h.going step));
           sent = ap (λ x. sent_all q.size w word k x (left it')) (sent-is ∙ ap (λ c. sent_piece c w word k n p.cover.first p.cover.last) (code ∙ h.going.size))
               ∙ ap (sent_all q.size w word k n) (sym step) ∙ h.sent;
         }
 
-    pub sending_end : (it : Pieces) (r : Response) (n : Meaning) → left it ≡ [] → Sending it r n
-        → (r ≡ worst_over (wrote_at (width_bytes b.bus) m.kinds k) (width_bytes b.bus) b.cover) × (n ≡ wrote_over (width_bytes b.bus) m b.cover word k) × (n ≡ sent_beat b.size (width_bytes b.bus) word k m b.cover)
+    pub sending_end : (it : Pieces) (r : Response) (n : Meaning) → left it ≡ [] → stray (width_bytes b.bus) b.cover.first b.cover.last k ≡ false → Sending it r n
+        → (r ≡ write_worst (board m) (width_bytes b.bus) b.cover k) × (n ≡ with_write idle Okay (written (board m) (width_bytes b.bus) b.cover word k) m) × (n ≡ sent_beat b.size (width_bytes b.bus) word k m b.cover)
     unfolding sent_all
-    sending_end it r n e h =
+    sending_end it r n e kept h =
         let w : ℕ = width_bytes b.bus in (
-          h.worst ∙ ap (span_worst (wrote_at w m.kinds k) (b.cover.first / w * w) b.cover.first) (end_at it e),
-          h.below ∙ ap (λ x. with_write idle Okay (wrote w m b.cover.first x word k) m) (end_at it e),
+          h.worst ∙ ap (span_worst (wrote_at w m.kinds k) (b.cover.first / w * w) b.cover.first) (end_at it e)
+              ∙ whole_worst (board m) w b.cover.first b.cover.last k (beat_word w b.cover.first b.cover.last b.size (beat_on b)) kept,
+          h.below ∙ ap (λ x. with_write idle Okay (wrote w (board m) b.cover.first x word k) m) (end_at it e)
+              ∙ ap (λ g. with_write idle Okay g m) (wrote_all (board m) w b.cover.first b.cover.last word k),
           ap (sent_all q.size w word k n) (sym e) ∙ h.sent ∙ ap (sent_all q.size w word k m) h.all.left
               ∙ ap (λ c. sent_all c w word k m (pieces (width_bytes q.bus) b.cover.first b.cover.last)) h.all.size
-              ∙ ap (λ v. sent_all (smaller b.size (code_of v)) w word k m (pieces v b.cover.first b.cover.last)) h.all.width,
+              ∙ ap (λ v. sent_all (min b.size (code_of v)) w word k m (pieces v b.cover.first b.cover.last)) h.all.width,
         )
 
   -- a read beat from the slave m
@@ -179,8 +184,8 @@ module _ (b : BusBeat) (q : Pieces) where
     pub record Fetching (it : Pieces) (x : ℕ) (r : Response) (n : Meaning) : Type 0 where
       pub all : AllOf b m q
       pub going : Going it
-      pub word : x ≡ span_word (shown m) (b.cover.first / width_bytes b.bus * width_bytes b.bus) b.cover.first (at it)
-      pub worst : r ≡ span_worst (read_at m) (b.cover.first / width_bytes b.bus * width_bytes b.bus) b.cover.first (at it)
+      pub word : x ≡ span_word (shown (board m)) (b.cover.first / width_bytes b.bus * width_bytes b.bus) b.cover.first (at it)
+      pub worst : r ≡ span_worst (read_at (board m)) (b.cover.first / width_bytes b.bus * width_bytes b.bus) b.cover.first (at it)
       pub below : n ≡ m
       pub got : fetched_all q.size (b.cover.first / width_bytes b.bus * width_bytes b.bus) n x r (left it) ≡ fetched_all q.size (b.cover.first / width_bytes b.bus * width_bytes b.bus) m 0 Okay (left q)
 
@@ -190,8 +195,8 @@ module _ (b : BusBeat) (q : Pieces) where
         record {
           all = all;
           going = first_going m all;
-          word = word_none (shown m) base b.cover.first ∙ ap (span_word (shown m) base b.cover.first) (first_at m all);
-          worst = span_none (read_at m) base b.cover.first ∙ ap (span_worst (read_at m) base b.cover.first) (first_at m all);
+          word = word_none (shown (board m)) base b.cover.first ∙ ap (span_word (shown (board m)) base b.cover.first) (first_at m all);
+          worst = span_none (read_at (board m)) base b.cover.first ∙ ap (span_worst (read_at (board m)) base b.cover.first) (first_at m all);
           below = refl;
           got = refl;
         }
@@ -199,42 +204,42 @@ module _ (b : BusBeat) (q : Pieces) where
     pub fetching_next : (it it' : Pieces) (p : BusBeat) (n n' : Meaning) (word : ℕ) (r : Response) (x : ℕ × Response) → Sound m → Fetching it word r n
         → left it ≡ (p.cover.first, p.cover.last) ∷ left it' → p.size ≡ it.size → it'.bus ≡ it.bus → it'.size ≡ it.size
         → (base : ℕ) → base ≡ b.cover.first / width_bytes b.bus * width_bytes b.bus
-        → x.0 ≡ moved_word word (word_over (shown n) (width_bytes p.bus) p.cover) base p.cover.first p.cover.last (width_bytes p.bus)
-        → x.1 ≡ worst_over (read_at n) (width_bytes p.bus) p.cover
+        → x.0 ≡ moved_word word (read_word (board n) (width_bytes p.bus) p.cover) base p.cover.first p.cover.last (width_bytes p.bus)
+        → x.1 ≡ read_worst (board n) (width_bytes p.bus) p.cover
         → n' ≡ n
-        → x ≡ fetched_piece p.size base n word p.cover.first p.cover.last
-        → n' ≡ fetched_after p.size n p.cover.first
+        → (x.0, x.1, n') ≡ fetched_piece p.size base n word p.cover.first p.cover.last
         → (all : Response) → all ≡ worse r x.1 → Fetching it' x.0 all n'
     unfolding fetched_all
-    fetching_next it it' p n n' word r x sound h step code bus size base base-is word-is here-is same-is x-is sent-is all all-is =
+    fetching_next it it' p n n' word r x sound h step code bus size base base-is word-is here-is same-is got-is all all-is =
         let v : ℕ = width_bytes p.bus in
         let o : ℕ = b.cover.first / width_bytes b.bus * width_bytes b.bus in
         let size' = code ∙ h.going.size in
         record {
           all = h.all;
           going = next_going it it' p h.going step bus size;
-          word = word-is ∙ ap (λ y. moved_word word (word_over (shown n) v p.cover) y p.cover.first p.cover.last v) base-is
-              ∙ ap (λ y. moved_word y (word_over (shown n) v p.cover) o p.cover.first p.cover.last v) (h.word ∙ ap (span_word (shown m) o b.cover.first) (here_at it it' p h.going step))
-              ∙ ap (λ y. moved_word (span_word (shown m) o b.cover.first p.cover.first) (word_over (shown y) v p.cover) o p.cover.first p.cover.last v) h.below
-              ∙ word_join (shown m) v o b.cover.first p.cover.first p.cover.last (shown_small m sound) (low it it' p h.going step) (some it it' p h.going step) (beat_word v p.cover.first p.cover.last p.size (beat_on p))
-              ∙ ap (span_word (shown m) o b.cover.first) (sym (next_at it it' p h.going step));
-          worst = all-is ∙ next_worst it it' p h.going step (read_at m) r x.1 h.worst (here-is ∙ ap (λ y. worst_over (read_at y) v p.cover) h.below);
+          word = word-is ∙ ap (λ y. moved_word word y base p.cover.first p.cover.last v) (read_part (board n) v p.cover.first p.cover.last)
+              ∙ ap (λ y. moved_word word (word_over (shown (board n)) v p.cover) y p.cover.first p.cover.last v) base-is
+              ∙ ap (λ y. moved_word y (word_over (shown (board n)) v p.cover) o p.cover.first p.cover.last v) (h.word ∙ ap (span_word (shown (board m)) o b.cover.first) (here_at it it' p h.going step))
+              ∙ ap (λ y. moved_word (span_word (shown (board m)) o b.cover.first p.cover.first) (word_over (shown (board y)) v p.cover) o p.cover.first p.cover.last v) h.below
+              ∙ word_join (shown (board m)) v o b.cover.first p.cover.first p.cover.last (shown_small m sound) (low it it' p h.going step) (some it it' p h.going step) (beat_word v p.cover.first p.cover.last p.size (beat_on p))
+              ∙ ap (span_word (shown (board m)) o b.cover.first) (sym (next_at it it' p h.going step));
+          worst = all-is ∙ next_worst it it' p h.going step (read_at (board m)) r x.1 h.worst (here-is ∙ read_worst_spans (board n) v p.cover.first p.cover.last ∙ ap (λ y. worst_over (read_at (board y)) v p.cover) h.below);
           below = same-is ∙ h.below;
-          got = ap (λ y. fetched_all q.size o n' x.0 y (left it')) all-is ∙ ap (λ y. fetched_all q.size o y x.0 (worse r x.1) (left it')) (sent-is ∙ ap (λ c. fetched_after c n p.cover.first) size')
-              ∙ ap (λ y. fetched_all q.size o (fetched_after q.size n p.cover.first) y.0 (worse r y.1) (left it'))
-              (x-is ∙ ap (λ c. fetched_piece c base n word p.cover.first p.cover.last) size' ∙ ap (λ y. fetched_piece q.size y n word p.cover.first p.cover.last) base-is)
+          got = ap (λ y. fetched_all q.size o n' x.0 y (left it')) all-is
+              ∙ ap (λ (y : ℕ × Response × Meaning). fetched_all q.size o y.2 y.0 (worse r y.1) (left it'))
+              (got-is ∙ ap (λ c. fetched_piece c base n word p.cover.first p.cover.last) size' ∙ ap (λ y. fetched_piece q.size y n word p.cover.first p.cover.last) base-is)
               ∙ ap (fetched_all q.size o n word r) (sym step) ∙ h.got;
         }
 
     pub fetching_end : (it : Pieces) (word : ℕ) (r : Response) (n : Meaning) → left it ≡ [] → Fetching it word r n
-        → (word ≡ word_over (shown m) (width_bytes b.bus) b.cover) × (r ≡ worst_over (read_at m) (width_bytes b.bus) b.cover) × (n ≡ m) × ((word, r, n) ≡ fetched_beat b.size (width_bytes b.bus) m b.cover)
+        → (word ≡ read_word (board m) (width_bytes b.bus) b.cover) × (r ≡ read_worst (board m) (width_bytes b.bus) b.cover) × (n ≡ m) × ((word, r, n) ≡ fetched_beat b.size (width_bytes b.bus) m b.cover)
     unfolding fetched_all
     fetching_end it word r n e h =
         let o : ℕ = b.cover.first / width_bytes b.bus * width_bytes b.bus in (
-          h.word ∙ ap (span_word (shown m) o b.cover.first) (end_at it e),
-          h.worst ∙ ap (span_worst (read_at m) o b.cover.first) (end_at it e),
+          h.word ∙ ap (span_word (shown (board m)) o b.cover.first) (end_at it e) ∙ sym (read_part (board m) (width_bytes b.bus) b.cover.first b.cover.last),
+          h.worst ∙ ap (span_worst (read_at (board m)) o b.cover.first) (end_at it e) ∙ sym (read_worst_spans (board m) (width_bytes b.bus) b.cover.first b.cover.last),
           h.below,
           ap (fetched_all q.size o n word r) (sym e) ∙ h.got ∙ ap (fetched_all q.size o m 0 Okay) h.all.left
               ∙ ap (λ c. fetched_all c o m 0 Okay (pieces (width_bytes q.bus) b.cover.first b.cover.last)) h.all.size
-              ∙ ap (λ v. fetched_all (smaller b.size (code_of v)) o m 0 Okay (pieces v b.cover.first b.cover.last)) h.all.width,
+              ∙ ap (λ v. fetched_all (min b.size (code_of v)) o m 0 Okay (pieces v b.cover.first b.cover.last)) h.all.width,
         )

@@ -1,10 +1,11 @@
 // A beat on a bus, and the pieces that it is cut into for the bus below.
-ghost use Rattle.std.specs.Prelude.{◌≡◌, ◌*◌, ◌/◌, ◌^◌, ◌<◌, ◌≤◌, IfSome};
+ghost use Rattle.std.specs.Prelude.{◌≡◌, ◌*◌, ◌/◌, ◌^◌, ◌<◌, ◌≤◌, min, IfSome};
 ghost use Rattle.std.specs.Option.{ForSome};
 ghost use Rattle.std.specs.Iterator.{YieldsFirstBy, item_count};
-ghost use Rattle.burst.specs.Rules.{width_bytes};
-ghost use Rattle.burst.specs.Beats.{raw_of, address_of, last_of, last_from, IsLawful};
-ghost use Rattle.converter.specs.Pieces.{Room, Cuttable, piece_burst, width_code, smaller, pieces, behind, pieces_left};
+ghost use Rattle.burst.specs.Rules.{width_bytes, KeepsPage};
+ghost use Rattle.burst.specs.Beats.{raw_of, cover_of, last_from, incr_burst, IsLawful};
+ghost use Rattle.converter.specs.Fits.{Cuttable};
+ghost use Rattle.converter.specs.Pieces.{code_of, pieces, behind, pieces_left};
 
 use crate::cut;
 use burst::{BurstKind, Cover, RawBurst, Width};
@@ -18,7 +19,7 @@ pub(crate) struct BusBeat {
     pub(crate) bus: Width,
     ghost fits: { 2 ^ size ≤ width_bytes bus },
     ghost last: { cover.last ≡ last_from cover.first (2 ^ size) },
-    ghost page: { Room cover.first (2 ^ size) },
+    ghost page: { KeepsPage cover.first (2 ^ size) 1 },
 }
 
 impl BusBeat {
@@ -26,7 +27,7 @@ impl BusBeat {
     pub(crate) fn next_of(at: OpenBurst, bus: Width) -> BusBeat
         requires lawful { IsLawful (width_bytes bus) (raw_of at.burst) }
         requires left { at.taken < at.burst.count }
-        ensures cover { result.cover ≡ record { first = address_of (raw_of at.burst) at.taken; last = last_of (raw_of at.burst) at.taken } }
+        ensures cover { result.cover ≡ cover_of (raw_of at.burst) at.taken }
         ensures size { result.size ≡ at.burst.size }
         ensures bus { result.bus ≡ bus }
     {
@@ -39,7 +40,7 @@ impl BusBeat {
 
     // What goes down for it: one INCR beat.
     pub(crate) fn alone(self) -> RawBurst
-        ensures { result ≡ piece_burst self.size self.cover.first }
+        ensures { result ≡ incr_burst self.cover.first self.size 1 }
     {
         RawBurst::new(BurstKind::Incr, self.cover.first, self.size, 1)
     }
@@ -53,8 +54,9 @@ impl BusBeat {
 
     // Its pieces over a bus, each a beat there.
     pub(crate) fn pieces(self, below: Width) -> Pieces
-        ensures left { pieces_left (width_bytes result.bus) result.rest ≡ pieces (width_bytes below) self.cover.first self.cover.last }
-        ensures size { result.size ≡ smaller self.size (width_code below) }
+        ensures left { pieces_left (width_bytes result.bus) result.rest
+            ≡ pieces (width_bytes below) self.cover.first self.cover.last }
+        ensures size { result.size ≡ min self.size (code_of (width_bytes below)) }
         ensures bus { result.bus ≡ below }
     {
         Pieces {

@@ -1,21 +1,21 @@
 // Where a beat is cut for the bus below.
-ghost use Rattle.std.specs.Prelude.{◌≡◌};
+ghost use Rattle.std.specs.Prelude.{◌≡◌, min};
 ghost use Rattle.burst.specs.Rules.{width_bytes};
 ghost use Rattle.converter.specs.Laws.{PiecesLie};
-ghost use Rattle.converter.specs.Pieces.{width_code, smaller, piece_end};
+ghost use Rattle.converter.specs.Pieces.{code_of, piece_end};
 
 use burst::Width;
 
 // The size code of a beat that fills a bus of this width.
 fn size_code(width: Width) -> u8
-    ensures { result ≡ width_code width }
+    ensures { result ≡ code_of (width_bytes width) }
 {
     width.bytes().ilog2() as u8
 }
 
 // The size code of a beat's pieces over a bus of this width.
 pub(crate) fn piece_code(size: u8, width: Width) -> u8
-    ensures { result ≡ smaller size (width_code width) }
+    ensures { result ≡ min size (code_of (width_bytes width)) }
 {
     size.min(size_code(width))
 }

@@ -2,14 +2,13 @@
 #![tactic(auto)]
 
 mod beat;
-mod below;
 mod calls;
+mod converter;
 mod cut;
 mod lanes;
 mod making;
 mod pieces;
-mod state;
 
+pub use converter::Converter;
 pub use cut::piece_end;
 pub use making::check;
-pub use state::Converter;

@@ -2,8 +2,7 @@ use Rattle.std.proofs.Common.{◌≡◌, ◌+◌, ◌^◌, ◌<◌, ◌≤◌, �
 use Rattle.std.proofs.lemmas.Bool.{cases_lt}
 use Rattle.std.proofs.lemmas.Nat.{pow-add}
 use Rattle.burst.proofs.Facts.{code_le}
-use Rattle.converter.specs.Pieces.{width_code}
-use Rattle.converter.proofs.Cuts.{width_is_power}
+use Rattle.converter.proofs.Cuts.{width_code, width_is_power}
 use Rattle.converter.proofs.cut.size_code.Goals as goal
 
 pub returns : goal.returns

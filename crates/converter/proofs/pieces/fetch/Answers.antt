@@ -16,7 +16,7 @@ loop-piece-preserved g c =
     let e = c.fetch_piece-joined.ensures in
     fetching_next c.args.beat c.into_iter-piece-iterator.result (g.S.Slave.meaning c.args.slave.now) l.piece-iterator c.next.new.self c.in-Some.piece
     (g.S.Slave.meaning l.slave) (g.S.Slave.meaning c.fetch_piece-joined.new.below) l.word l.worst c.fetch_piece-joined.result (g.met.S.Slave.sound c.args.slave.now) l.invariant s.0 s.1.0 s.3 s.2
-    c.word_start-base.result c.word_start-base.ensures e.word e.worst e.after e.got e.sent c.worse-worst.result c.worse-worst.ensures
+    c.word_start-base.result c.word_start-base.ensures e.word e.worst e.after e.got c.worse-worst.result c.worse-worst.ensures
 
 pub returns : goal.returns
 returns g c =

@@ -9,7 +9,7 @@ loop-piece-init g c =
     let q = c.into_iter-piece-iterator in
     let e = c.pieces-piece-items.ensures in
     sending_first b q.result m c.args.word c.args.strobe (all_of b m q.result c.pieces-piece-items.result c.width.result q.ensures.into_iter_gives e.left e.size e.bus c.width.ensures)
-    (g.met.S.Slave.sound x) c.requires
+    (g.met.S.Slave.sound x) c.requires.ready
 
 pub loop-piece-preserved : goal.loop-piece-preserved
 loop-piece-preserved g c =
@@ -23,5 +23,5 @@ pub returns : goal.returns
 returns g c =
     let l = c.loop-piece in
     let e = sending_end c.args.beat c.into_iter-piece-iterator.result (g.S.Slave.meaning c.args.slave.now) c.args.word c.args.strobe l.piece-iterator l.worst (g.S.Slave.meaning l.slave)
-    c.in-None.ensures.steps.0.0 l.invariant in
+    c.in-None.ensures.steps.0.0 c.requires.kept l.invariant in
     record { worst = e.0; after = e.1; sent = e.2 }

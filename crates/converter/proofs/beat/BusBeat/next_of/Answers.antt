@@ -1,8 +1,8 @@
 use Rattle.std.proofs.Common.{◌≡◌, ◌^◌, ltb, sym, subst}
-use Rattle.burst.specs.Beats.{raw_of, address_of, last_of, last_from}
+use Rattle.burst.specs.Beats.{raw_of, cover_of, last_from}
 use Rattle.burst.proofs.Facts.{some_is}
 use Rattle.burst.specs.declared.raw.Cover.{Cover}
-use Rattle.converter.specs.Pieces.{Room}
+use Rattle.burst.specs.Rules.{KeepsPage}
 use Rattle.converter.proofs.Bursts.{beat_of}
 use Rattle.converter.proofs.beat.BusBeat.next_of.Goals as goal
 
@@ -11,9 +11,9 @@ invariant_of-result c =
     let s = c.args.at.burst.size in
     let b = beat_of c.args.bus c.args.at.burst c.args.at.taken c.requires.lawful in
     let k = c.args.at.taken in
-    let at = sym (some_is (ltb k c.args.at.burst.count) (record { first = address_of (raw_of c.args.at.burst) k; last = last_of (raw_of c.args.at.burst) k }) c.unwrap.result c.cover.result c.cover.ensures c.unwrap.ensures) in
+    let at = sym (some_is (ltb k c.args.at.burst.count) (cover_of (raw_of c.args.at.burst) k) c.unwrap.result c.cover.result c.cover.ensures c.unwrap.ensures) in
     record {
       fits = b.fits;
       last = subst (λ (x : Cover). x.last ≡ last_from x.first (2 ^ s)) at b.last;
-      page = subst (λ (x : Cover). Room x.first (2 ^ s)) at b.page;
+      page = subst (λ (x : Cover). KeepsPage x.first (2 ^ s) 1) at b.page;
     }

@@ -1,15 +1,12 @@
-// The converter, its making, and the beats of its open bursts.
-ghost use Rattle.burst.specs.Rules.{width_bytes};
-ghost use Rattle.slave.specs.Channels.{state_at};
+// A converter over a slave, and the steps that its calls are made of.
+ghost use Rattle.converter.specs.Fits.{OpensFit};
 ghost use Rattle.slave.specs.Making.{ready};
-ghost use Rattle.slave.specs.Meaning.{sound_stand, told};
-ghost use Rattle.slave.specs.declared.answer.Channel.{Channel};
 ghost use Rattle.std.specs.Prelude.{◌≡◌, true};
 
 use crate::beat::BusBeat;
-use crate::{making, pieces};
+use crate::pieces;
 use burst::{Burst, Width};
-use slave::{Channel, Channels, Given, MakeFault, OpenBurst, Response, Slave, SlaveFault, Step};
+use slave::{Channel, Channels, Given, OpenBurst, Response, Slave, SlaveFault, Step};
 
 // A full slave of its own width over another slave. Nobody else reaches the slave below: between the converter's calls it
 // is live, and both its channels are idle.
@@ -19,40 +16,22 @@ pub struct Converter<S: Slave> {
     pub(crate) width: Width,
     pub(crate) channels: Channels,
     ghost idle: { ready (S.meaning below) ≡ true },
-    ghost opens: { (channel : Channel) → sound_stand (width_bytes width) (told (state_at channel channels).place) ≡ true },
-}
-
-impl<S: Slave + Drop> Converter<S> {
-    ghost use Rattle.converter.specs.Converters.{converter_shows};
-    ghost use Rattle.converter.specs.Shows.{make_refusal, converted_made};
-    ghost use Rattle.slave.specs.Made.{made};
-    ghost use Rattle.slave.specs.Making.{answered};
-    ghost use Rattle.std.specs.Prelude.{IfOk};
-
-    // A converter over a slave, or the first rule that is broken.
-    pub fn new(below: S, width: u8) -> Result<Converter<S>, MakeFault>
-        ensures answer { answered result ≡ make_refusal (S.Slave.meaning below) width }
-        ensures shown { made (converter_shows S.Slave.meaning) result ≡ converted_made (S.Slave.meaning below) width }
-        ensures below { IfOk result (λ c. c.below ≡ below) }
-    {
-        Ok(Converter {
-            width: making::check(&below, width)?,
-            below,
-            channels: Channels::idle(),
-        })
-    }
+    ghost opens: { OpensFit width channels },
 }
 
 impl<S: Slave> Converter<S> {
     ghost use Rattle.burst.specs.Beats.{raw_of, IsLawful, address_of, last_of};
-    ghost use Rattle.converter.specs.Converters.{converter_shows};
+    ghost use Rattle.burst.specs.Rules.{width_bytes};
+    ghost use Rattle.converter.specs.Sent.{sent_below, fetched_below};
+    ghost use Rattle.converter.specs.Shows.{converter_shows, below_of, width_of};
     ghost use Rattle.slave.specs.Acts.{give_answer, give_after, take_answer, take_after, opened};
+    ghost use Rattle.slave.specs.Channels.{state_at};
     ghost use Rattle.slave.specs.Lanes.{stray};
     ghost use Rattle.std.specs.Prelude.{false, Some, None, Ok, is_ok};
 
     // The slave below. It is live, and both its channels are idle.
     pub fn below(&self) -> &S
-        ensures below { result.now ≡ self.now.below }
+        ensures below { result.now ≡ below_of self.now }
         ensures idle { ready (S.meaning result.now) ≡ true }
     {
         &self.below
@@ -60,7 +39,7 @@ impl<S: Slave> Converter<S> {
 
     // The slave below itself.
     pub fn into_below(self) -> S
-        ensures { result ≡ self.below }
+        ensures { result ≡ below_of self }
     {
         self.below
     }
@@ -70,8 +49,10 @@ impl<S: Slave> Converter<S> {
     pub(crate) fn begin(&mut self, channel: Channel, burst: Burst)
         requires free { (state_at channel self.old.channels).place ≡ None }
         requires lawful { IsLawful (width_bytes self.old.width) (raw_of burst) }
-        ensures after { converter_shows S.meaning self.new ≡ opened channel (raw_of burst) (converter_shows S.meaning self.old) }
-        ensures width { self.new.width ≡ self.old.width }
+        ensures after { converter_shows S.meaning self.new
+            ≡ opened channel (raw_of burst) (converter_shows S.meaning self.old) }
+        ensures below { below_of self.new ≡ below_of self.old }
+        ensures width { width_of self.new ≡ width_of self.old }
     {
         let _ = self.channels.step(channel, Step::Open(burst));
     }
@@ -79,7 +60,8 @@ impl<S: Slave> Converter<S> {
     // Whether a strobe leaves the lanes of the next beat of the open write.
     pub(crate) fn strays(&self, at: OpenBurst, strobe: u8) -> bool
         requires { self.now.channels.write.place ≡ Some at }
-        ensures { result ≡ stray (width_bytes self.now.width) (address_of (raw_of at.burst) at.taken) (last_of (raw_of at.burst) at.taken) strobe }
+        ensures { result ≡ stray (width_bytes self.now.width)
+            (address_of (raw_of at.burst) at.taken) (last_of (raw_of at.burst) at.taken) strobe }
     {
         at.strays(self.width, strobe)
     }
@@ -92,10 +74,15 @@ impl<S: Slave> Converter<S> {
         strobe: u8,
     ) -> Result<Given, SlaveFault>
         requires stands { self.old.channels.write.place ≡ Some at }
-        requires kept { stray (width_bytes self.old.width) (address_of (raw_of at.burst) at.taken) (last_of (raw_of at.burst) at.taken) strobe ≡ false }
+        requires kept { stray (width_bytes self.old.width)
+            (address_of (raw_of at.burst) at.taken) (last_of (raw_of at.burst) at.taken) strobe
+            ≡ false }
         ensures answer { result ≡ give_answer (converter_shows S.meaning self.old) word strobe }
-        ensures after { converter_shows S.meaning self.new ≡ give_after (converter_shows S.meaning self.old) word strobe }
-        ensures width { self.new.width ≡ self.old.width }
+        ensures after { converter_shows S.meaning self.new
+            ≡ give_after (converter_shows S.meaning self.old) word strobe }
+        ensures below { S.meaning (below_of self.new) ≡ sent_below
+            (converter_shows S.meaning self.old) (S.meaning (below_of self.old)) word strobe }
+        ensures width { width_of self.new ≡ width_of self.old }
         ensures taken { is_ok result ≡ true }
     {
         let beat = BusBeat::next_of(at, self.width);
@@ -107,8 +94,12 @@ impl<S: Slave> Converter<S> {
     pub(crate) fn take_beat(&mut self, at: OpenBurst) -> (u64, Response, u16)
         requires { self.old.channels.read.place ≡ Some at }
         ensures answer { Ok result ≡ take_answer (converter_shows S.meaning self.old) }
-        ensures after { converter_shows S.meaning self.new ≡ take_after (converter_shows S.meaning self.old) }
-        ensures width { self.new.width ≡ self.old.width }
+        ensures after { converter_shows S.meaning self.new
+            ≡ take_after (converter_shows S.meaning self.old) }
+        ensures below { S.meaning (below_of self.new) ≡ S.meaning (below_of self.old) }
+        ensures fetched { (result.0, result.1, S.meaning (below_of self.new))
+            ≡ fetched_below (converter_shows S.meaning self.old) (S.meaning (below_of self.old)) }
+        ensures width { width_of self.new ≡ width_of self.old }
     {
         let beat = BusBeat::next_of(at, self.width);
         let (word, response) = pieces::fetch(&mut self.below, beat);

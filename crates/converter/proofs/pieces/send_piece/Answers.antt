@@ -4,7 +4,7 @@ use Rattle.slave.specs.declared.answer.Channel.TheVariants.{Write}
 use Rattle.slave.specs.Acts.{open_after}
 use Rattle.converter.proofs.Cuts.{beat_on}
 use Rattle.converter.proofs.Parts.{part_sent}
-use Rattle.converter.proofs.below.send_piece.Goals as goal
+use Rattle.converter.proofs.pieces.send_piece.Goals as goal
 
 pub returns : goal.returns
 returns g c =
