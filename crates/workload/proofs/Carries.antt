@@ -86,7 +86,7 @@ module _ (frame : List ℕ) (b : (k : ℕ) → k < length frame → slice_index 
       let h = held frame p.start a in_it in
       (a - p.start, h.1, omega (arith, h.0))
 
-  carries : CarriesFrame frame p (puts_of frame p)
+  pub carries : CarriesFrame frame p (puts_of frame p)
   carries = record {
     count = length-map-range_with_len (put_of frame p) 0 p.beats;
     marks = λ j l. record { word = frame_word frame p.start (first j); strobe = frame_strobe frame p.start (first j); is = beat_at j l };
