@@ -1,5 +1,5 @@
-// The fabric and its five calls. That each call names its slave, and that nothing here sees an end or an adapter,
-// is a rule of the project.
+// The fabric and its five calls. Each call is lent its slave, so that the holder of both may look at the slave
+// between two calls; it asks only what every slave answers, so that any end or adapter may stand below.
 ghost use Rattle.std.specs.Prelude.{◌≡◌, ◌<◌, false, is_ok, IfOk, if◌then◌else◌};
 ghost use Rattle.fabric.specs.Channels.{channels_of, queue_of, queue_in, with_queue, no_channels};
 ghost use Rattle.std.specs.Borrow.{sem};
@@ -112,7 +112,6 @@ impl Fabric {
     }
 
     // Takes the next beat of the open read.
-    // That a take answers word, response and beats left is a rule of the project.
     pub fn take<S: Slave>(&mut self, slave: &mut S) -> Outcome
         ensures answer { result ≡ take_answer (queue_in self.old Read) (S.Slave.meaning slave.old) }
         ensures after { channels_of self.new ≡ with_queue Read (take_after (queue_in self.old Read) (S.Slave.meaning slave.old)) (channels_of self.old) }

@@ -116,7 +116,7 @@ impl From<BurstFault> for FabricFault {
     }
 }
 
-// The slave's own fault, whole. That `From` lifts it is a rule of the project.
+// The slave's own fault, whole: its number and its layer are then told as the slave's.
 impl From<SlaveFault> for FabricFault {
     ghost from_gives = { λ e r. r ≡ Slave e };
 

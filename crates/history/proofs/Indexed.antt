@@ -10,8 +10,8 @@ use Rattle.history.specs.Tracks.{row_of}
 use Rattle.fabric.specs.Rows.{no_row, row_at, alike, Candidate, Picked}
 use Rattle.fabric.specs.Rows.{rank as row_rank}
 use Rattle.history.specs.History.{History, Filed, same_source, rank, waiting, own, Picks}
-use Rattle.history.proofs.Filing.{mem_index, Ordered, ordered_head, ordered_tail, ordered_same, without}
-use Rattle.history.proofs.Waits.{waiting_ordered, own_picks, own_some}
+use Rattle.history.proofs.Filing.{mem_index, Ordered, ordered_head, ordered_tail, without}
+use Rattle.history.proofs.Waits.{waiting_ordered, own_picks, picks_once, own_some}
 
 -- what has a place is in the list
 pub index_mem : {X : Type 0} (xs : List X) (i : ℕ) (d : X) → i < length xs → Memᴰ (get_or xs i d) xs
@@ -111,15 +111,9 @@ module _ (ch : Channel) (h : History) (d : Filed) where
   unfolding rows at
   picked_own k c = let p = picked_picks k c in go p.1 (own ch h) refl
     where
-      same : (q : Filed) → Picks ch h q → Picks ch h (at k) → q ≡ at k
-      same q a b =
-          let u = a.highest (at k) b.waits b.first in
-          let v = b.highest q a.waits a.first in
-          ordered_same (waiting ch h) (waiting_ordered ch h) a.waits b.waits (omega arith)
-
       go : Picks ch h (at k) → (o : Option Filed) → own ch h ≡ o → own ch h ≡ Some (at k)
       go p None e = absurd (own_some ch h p.waits e)
-      go p (Some q) e = e ∙ ap (λ (v : Filed). Some v) (same q (own_picks ch h q e) p)
+      go p (Some q) e = e ∙ ap (λ (v : Filed). Some v) (picks_once ch h q (at k) (own_picks ch h q e) p)
 
   -- the picked row is that of a waiting request
   pub picked_row : (k : ℕ) → Picked (map (row_of ch h) (waiting ch h)) k

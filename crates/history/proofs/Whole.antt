@@ -18,7 +18,7 @@ use Rattle.history.specs.Bytes.{Board, BytesSmall, response_at, worst}
 use Rattle.history.specs.Owed.{owed, owed_request, owed_grant, is_last, Run}
 use Rattle.history.specs.Law.{GrantedIn, Whole, GrantRight, BeatRight, PutRight, TakeRight, Holds, WorstAgrees}
 use Rattle.history.proofs.EventActs.{put_act}
-use Rattle.history.proofs.Waits.{waiting_in, picked_grant, picked_other, own_picks}
+use Rattle.history.proofs.Waits.{waiting_in, picked_grant, picked_other, own_picks, picks_once}
 use Rattle.history.proofs.Bound.{waits_or_granted, thirty, grant_own}
 use Rattle.history.proofs.Beats.{WithinIf, within_burst, moving_open, opened_current, beat_right}
 use Rattle.history.proofs.Latest.{latest_agrees}
@@ -55,7 +55,7 @@ grant_right m ch x h r e =
     let p = grant_own m ch x h r.0 e in
     let k = own_picks ch h p.0 p.1 in (
       p.0,
-      record { picks = p.1; rule = k; answers = p.2 },
+      record { picks = p.1; rule = k; only = λ q j. picks_once ch h q p.0 j k; answers = p.2 },
       record {
         earlier_ones = λ q n l s. ⊎_elim (λ g. g) (λ w. absurd (k.first q w l s)) (waits_or_granted m ch h r.1 q n);
         once = λ g. both_ways (among (picked ch h) p.0) (not-true (among (picked ch h) p.0) (waiting_in ch h k.waits).1) (granted_among ch h p.0 g);

@@ -48,6 +48,8 @@ pub record LatestAgrees (m : Board) (h : History) (a : ℕ) : Type 0 where
 pub record OwnRequest (ch : Channel) (x : Event) (before : History) (q : Filed) : Type 0 where
   pub picks : own ch before ≡ Some q
   pub rule : Picks ch before q
+  -- and it picks no other
+  pub only : (p : Filed) → Picks ch before p → p ≡ q
   pub answers : x.answer ≡ Ok (Granted q.request.master q.request.id)
 
 -- a grant of the channel picked the request after its acceptance

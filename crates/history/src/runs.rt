@@ -1,4 +1,5 @@
-// Acts one by one, and whole runs. Each call names the slave beside the fabric, as a rule of the project demands, so the two are not made one struct.
+// Acts one by one, and whole runs. Each call is lent the slave beside the fabric: their holder keeps both, and may look
+// at the slave between two acts.
 ghost use Rattle.std.specs.Prelude.{◌≡◌, ◌≤◌, false, [], length, is_ok, OnOk};
 ghost use Rattle.fabric.specs.Channels.{channels_of};
 ghost use Rattle.history.specs.Bytes.{board};

@@ -2,3 +2,4 @@
 pub mod Carried
 pub mod Moves
 pub mod Steps
+pub mod Law

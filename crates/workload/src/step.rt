@@ -1,6 +1,7 @@
 // The steps of a workload, and the acts that they come to.
-ghost use Rattle.std.specs.Prelude.{◌≡◌, ℕ, ◌++◌, OnOk, OnErr, IfOk, take};
+ghost use Rattle.std.specs.Prelude.{◌≡◌, ℕ, ◌++◌, OnOk, OnErr, IfOk, take, drop, length};
 ghost use Rattle.workload.specs.Moves.{put_of, puts_of, takes_of};
+ghost use Rattle.workload.specs.Law.{CarriesFrame};
 ghost use Rattle.workload.specs.Steps.{step_acts, all_acts};
 
 use crate::carry::Frame;
@@ -39,6 +40,7 @@ impl Puts {
     pub fn add_to(self, acts: &mut Vec<Act>, frame: &[u8]) -> Result<(), AllocError>
         ensures added { OnOk result (acts.new.items ≡ acts.old.items ++ puts_of frame.now self) }
         ensures no_memory { OnErr result ((k : ℕ) × (acts.new.items ≡ acts.old.items ++ take k (puts_of frame.now self))) }
+        ensures law { OnOk result (CarriesFrame frame.now self (drop (length acts.old.items) acts.new.items)) }
     {
         acts.extend((0..self.beats).map(|j| self.beat(frame, j)))
     }

@@ -1,0 +1,2 @@
+-- The bursts of the frame.
+pub mod Once
