@@ -1,15 +1,12 @@
--- The bench's answer, buffer and run by the cases of the call.
-use Rattle.std.proofs.Common.{◌≡◌, ℕ, ◌+◌, ◌-◌, ◌/◌, ◌≤◌, Bool, true, false, cond, ◌&&◌, eqb, leb, List, length, replicate, Ok, Err, Result, refl, sym, ap, ◌∙◌, subst, arith, length-append}
+-- What is run and reported of a script, by the cases of the call.
+use Rattle.std.proofs.Common.{◌≡◌, ℕ, ◌+◌, ◌-◌, ◌/◌, ◌≤◌, Bool, true, false, cond, ◌&&◌, eqb, leb, List, length, replicate, refl, sym, ap, ◌∙◌, subst, arith, length-append}
 use lib.ListN.{length-replicate}
 use Rattle.history.specs.Law.{Holds}
 use Rattle.script.specs.Files.{header_of, opens, records_of, image_of}
 use Rattle.script.specs.Laws.{FilesParted}
-use Rattle.bench.specs.declared.fault.BenchFault.{BenchFault}
-use Rattle.bench.specs.declared.fault.BenchFault.TheVariants.{Short}
-use Rattle.report.specs.Lines.{written}
 use Rattle.bench.specs.Reports.{history_until, report_until, script_history, script_report}
 use Rattle.bench.specs.Piles.{memory_board, loaded}
-use Rattle.bench.specs.Runs.{bench_answer, bench_after, runs, report_of, file_board, file_history, header_line}
+use Rattle.bench.specs.Runs.{runs, report_of, file_board, file_history, header_line}
 
 -- as many records as acts
 pub acts_are : (f rs : List ℕ) → FilesParted → opens f ≡ true → rs ≡ records_of f → length rs / 24 ≡ (header_of f).acts
@@ -30,16 +27,6 @@ same_law mem mem' rs rs' n n' a b c h =
     subst (λ (z : ℕ). Holds (memory_board mem') (history_until (memory_board mem') rs' z)) c
     (subst (λ (z : List ℕ). Holds (memory_board mem') (history_until (memory_board mem') z n)) b
     (subst (λ (z : List ℕ). Holds (memory_board z) (history_until (memory_board z) rs n)) a h))
-
--- the answer over memory of 8,192 bytes
-pub answer_is : (f : List ℕ) (M room : ℕ) (rep : List ℕ) → M ≡ 8192 → report_of f ≡ rep → bench_answer f M room ≡ cond (leb (length rep) room) (Ok (length rep)) (Err Short)
-answer_is f M room rep e r =
-    ap (λ (k : ℕ). bench_answer f k room) e
-    ∙ ap (λ (t : List ℕ). cond {A = Result ℕ BenchFault} (leb (length t) room) (Ok (length t)) (Err Short)) r
-
--- the buffer after it
-pub after_is : (f : List ℕ) (M : ℕ) (out rep : List ℕ) → M ≡ 8192 → report_of f ≡ rep → bench_after f M out ≡ written rep out
-after_is f M out rep e r = ap (λ (k : ℕ). bench_after f k out) e ∙ ap (λ (t : List ℕ). written t out) r
 
 -- whether the acts are run
 pub runs_is : (f : List ℕ) (M room : ℕ) (rep : List ℕ) → M ≡ 8192 → opens f ≡ true → report_of f ≡ rep → runs f M room ≡ leb (length rep) room

@@ -1,4 +1,4 @@
--- How a record of a script ends, and what is told of it.
+-- Why a call is refused, how a record of a script ends, and what is told of it.
 use Rattle.std.specs.Prelude.{ℕ, List, ◌∷◌, Some, None, Ok, Err, Option, Result}
 use Rattle.slave.specs.Meaning.{Meaning}
 use Rattle.fabric.specs.declared.types.Act.{Act}
@@ -11,35 +11,50 @@ use Rattle.history.specs.Bytes.{Board}
 use Rattle.history.specs.Owed.{owed}
 use Rattle.history.specs.Tracks.{act_answer, act_after, act_slave}
 use Rattle.report.specs.declared.told.Layer.TheVariants.{Bench}
-use Rattle.report.specs.Outcomes.{Told, outcome_told}
+use Rattle.report.specs.declared.told.Refusal.{Refusal}
+use Rattle.report.specs.Lines.{line}
+use Rattle.report.specs.Outcomes.{refusal_of}
 use Rattle.script.specs.declared.fault.ScriptFault.{ScriptFault}
 use Rattle.script.specs.declared.fault.ScriptFault.TheVariants.{Record as BadRecord}
 use Rattle.script.specs.Files.{record_at}
 use Rattle.script.specs.Acts.{read_act}
 use Rattle.bench.specs.declared.fault.BenchFault.{BenchFault}
-use Rattle.bench.specs.declared.fault.BenchFault.TheVariants.{Memory, Header, Record, Short, Fabric}
+use Rattle.bench.specs.declared.fault.BenchFault.TheVariants.{Header, Record, Fabric}
+use Rattle.bench.specs.declared.fault.CallFault.{CallFault}
+use Rattle.bench.specs.declared.fault.CallFault.TheVariants.{Memory, Short}
 
--- the number of a refusal
+-- the number of a refused call
+abbrev pub call_number : CallFault → ℕ
+call_number Memory = 17
+call_number Short = 22
+
+-- the number of a fault
 abbrev pub bench_number : BenchFault → ℕ
-bench_number Memory = 17
 bench_number Header = 20
 bench_number (Record n) = 21
-bench_number Short = 22
 bench_number (Fabric n e) = fabric_number e
+
+-- the act that has the fault; a bad header is told as act 0
+abbrev pub fault_act : BenchFault → ℕ
+fault_act Header = 0
+fault_act (Record n) = n
+fault_act (Fabric n e) = n
+
+-- the layer and number of a fault: a fabric's is told as the fabric's, any other as the bench's
+abbrev pub fault_told : BenchFault → Refusal
+fault_told (Fabric n e) = refusal_of e
+fault_told Header = record { layer = Bench; number = 20 }
+fault_told (Record n) = record { layer = Bench; number = 21 }
 
 -- a fabric's outcome with the act's number
 abbrev pub lifted : ℕ → Result Answer FabricFault → Result Answer BenchFault
 lifted n (Ok a) = Ok a
 lifted n (Err e) = Err (Fabric n e)
 
--- what a line tells of an outcome: a fabric's fault as the fabric's, any other as the bench's
-abbrev pub told_of : Result Answer BenchFault → Told
-told_of (Ok a) = Ok a
-told_of (Err Memory) = Err (record { layer = Bench; number = 17 })
-told_of (Err Header) = Err (record { layer = Bench; number = 20 })
-told_of (Err (Record n)) = Err (record { layer = Bench; number = 21 })
-told_of (Err Short) = Err (record { layer = Bench; number = 22 })
-told_of (Err (Fabric n e)) = outcome_told (Err e)
+-- the line of how act n ended: a fault has its act with it
+abbrev pub outcome_line : ℕ → Result Answer BenchFault → List ℕ
+outcome_line n (Ok a) = line n (Ok a)
+outcome_line n (Err e) = line (fault_act e) (Err (fault_told e))
 
 -- the act in a record, if there is one
 abbrev pub act_in_record : Option (List ℕ) → Result Act ScriptFault

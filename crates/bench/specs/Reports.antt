@@ -8,10 +8,9 @@ use Rattle.history.specs.History.{History}
 use Rattle.history.specs.Bytes.{Board}
 use Rattle.history.specs.Law.{Holds}
 use Rattle.history.specs.Tracks.{Tracks}
-use Rattle.report.specs.Lines.{line}
 use Rattle.script.specs.declared.fault.ScriptFault.{ScriptFault}
 use Rattle.bench.specs.declared.fault.BenchFault.{BenchFault}
-use Rattle.bench.specs.Outcomes.{act_at, ends, goes, told_of}
+use Rattle.bench.specs.Outcomes.{act_at, ends, goes, outcome_line}
 
 -- the history of the first n records, over the bytes and kinds m at the creation
 unfoldable pub history_until : Board → List ℕ → ℕ → History
@@ -20,7 +19,7 @@ history_until m records (suc i) = goes m (history_until m records i) (act_at rec
 
 -- the line of record i, with the number i + 1
 abbrev pub line_at : Board → List ℕ → ℕ → List ℕ
-line_at m records i = line (suc i) (told_of (ends m (history_until m records i) (suc i) (act_at records i)))
+line_at m records i = outcome_line (suc i) (ends m (history_until m records i) (suc i) (act_at records i))
 
 -- the lines of the first n records
 unfoldable pub report_until : Board → List ℕ → ℕ → List ℕ

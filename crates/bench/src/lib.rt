@@ -3,12 +3,16 @@
 
 mod example;
 mod fault;
-mod pile;
+mod making;
 mod records;
+mod runs;
+mod sink;
 
 pub use example::whole_case_stands;
-pub use fault::BenchFault;
-pub use pile::{MEMORY_BYTES, REPORT_BYTES, run};
+pub use fault::{BenchFault, CallFault};
+pub use making::{MEMORY_BYTES, Pile, pile};
+pub use records::REPORT_BYTES;
+pub use runs::run;
 
 #[cfg(test)]
 mod tests {
@@ -39,7 +43,7 @@ mod tests {
                 let mut out = vec![in heap; b'?'; room]?;
                 let answer = run(file, memory, Fabric::new(heap)?, &mut out);
                 if room < report.len() {
-                    assert_eq!(rt; answer, Err(BenchFault::Short));
+                    assert_eq!(rt; answer, Err(CallFault::Short));
                     assert!(rt; out.iter().all(|byte| *byte == b'?'));
                 } else {
                     assert_eq!(rt; answer, Ok(report.len()));
@@ -58,7 +62,7 @@ mod tests {
         for bytes in [0, 4096, MEMORY_BYTES - 1, 2 * MEMORY_BYTES] {
             let memory = vec![in heap; 0u8; bytes]?;
             let answer = run(FILE, memory, Fabric::new(heap)?, &mut []);
-            assert_eq!(rt; answer, Err(BenchFault::Memory));
+            assert_eq!(rt; answer, Err(CallFault::Memory));
         }
         Ok(())
     }

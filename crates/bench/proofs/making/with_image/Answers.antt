@@ -3,7 +3,7 @@ use Rattle.std.proofs.Common.{ℕ, ◌≤◌, length, sym, ap, ◌∙◌, subst}
 use Rattle.std.proofs.lemmas.List.{take_at}
 use Rattle.bench.specs.Piles.{loaded}
 use Rattle.bench.proofs.Calls.{length_loaded}
-use Rattle.bench.proofs.pile.with_image.Goals as goal
+use Rattle.bench.proofs.making.with_image.Goals as goal
 
 pub returns : goal.returns
 returns c =

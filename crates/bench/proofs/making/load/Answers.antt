@@ -1,7 +1,7 @@
 -- Zeros, and the image in front of them.
 use Rattle.std.proofs.Common.{◌≡◌, ℕ, ◌-◌, List, ◌++◌, length, drop, replicate, ap, ◌∙◌, arith, rules}
 use Rattle.std.proofs.lemmas.List.{drop-replicate}
-use Rattle.bench.proofs.pile.load.Goals as goal
+use Rattle.bench.proofs.making.load.Goals as goal
 
 pub returns : goal.returns
 returns c =

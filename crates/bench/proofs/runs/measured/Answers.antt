@@ -6,14 +6,15 @@ use Rattle.history.specs.Bytes.{Board}
 use Rattle.bench.specs.Piles.{loaded}
 use Rattle.bench.proofs.Calls.{length_loaded}
 use Rattle.bench.proofs.Stacks.{pile_length}
-use Rattle.bench.proofs.pile.measured.Goals as goal
+use Rattle.bench.proofs.runs.measured.Goals as goal
 
 pub returns-clause-memory : goal.returns-clause-memory
 returns-clause-memory c =
     let xs : List ℕ = loaded c.image.result.now 8192 in
-    let left = c.measure-bytes.ensures.run.run.slave in
-    let below : c.into_below-ram.result ≡ c.measure-bytes.new.slave.below.below.below =
+    let pile = c.perform.new.slave in
+    let left = c.in_ok-perform.ensures.run.run.slave in
+    let below : c.into_below-ram.result ≡ pile.below.below.below =
     c.into_below-ram.ensures ∙ ap (λ z. z.below) (c.into_below-2.ensures ∙ ap (λ z. z.below) c.into_below.ensures) in
     ap vec_len (c.into_memory.ensures ∙ ap (λ (z : Ram). z.memory) below)
-    ∙ pile_length c.measure-bytes.new.slave xs (ap (λ (z : Meaning). z.kinds) left ∙ ap (λ (b : Board). b.kinds) c.begin-pile.ensures.board)
+    ∙ pile_length pile xs (ap (λ (z : Meaning). z.kinds) left ∙ ap (λ (b : Board). b.kinds) c.begin-pile.ensures.board)
     ∙ length_loaded c.image.result.now 8192 (subst (λ (z : List ℕ). length z ≤ 8192) (sym c.image.ensures) c.args.script.most_image)

@@ -1,0 +1,2 @@
+-- What the program says and prints.
+pub mod Program
