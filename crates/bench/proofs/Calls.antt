@@ -5,7 +5,8 @@ use Rattle.history.specs.Law.{Holds}
 use Rattle.script.specs.Files.{header_of, opens, records_of, image_of}
 use Rattle.script.specs.Laws.{FilesParted}
 use Rattle.bench.specs.Reports.{history_until, report_until, script_history, script_report}
-use Rattle.bench.specs.Piles.{memory_board, loaded}
+use Rattle.ram.specs.Memory.{memory_board}
+use Rattle.bench.specs.Piles.{loaded}
 use Rattle.bench.specs.Runs.{runs, report_of, file_board, file_history, header_line}
 
 -- as many records as acts

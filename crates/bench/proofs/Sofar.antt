@@ -4,12 +4,12 @@ use Rattle.std.proofs.lemmas.Bool.{cases_lt}
 use Rattle.std.proofs.lemmas.Option.{slice_get-get_or}
 use Rattle.script.specs.Acts.{read_act}
 use Rattle.script.specs.Files.{record_at}
-use Rattle.slave.specs.Meaning.{Meaning}
+use Rattle.slave.specs.Meaning.{Meaning, Board}
 use Rattle.fabric.specs.declared.types.Act.{Act}
 use Rattle.fabric.specs.declared.types.Answer.{Answer}
 use Rattle.fabric.specs.Channels.{Channels}
 use Rattle.history.specs.History.{History}
-use Rattle.history.specs.Bytes.{Board}
+
 use Rattle.history.specs.Tracks.{Tracks}
 use Rattle.history.proofs.Whole.{runs_hold}
 use Rattle.report.specs.declared.line.TheConstants.{LINE_BYTES}

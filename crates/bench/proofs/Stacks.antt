@@ -2,20 +2,30 @@
 use Rattle.std.proofs.Common.{◌≡◌, ℕ, ◌≤◌, true, false, cond, eqb, ltb, List, length, Some, None, Option, vec_items, vec_len, refl, sym, ap, ◌∙◌, arith, le-ltb}
 use Rattle.std.proofs.lemmas.Bool.{cond-true, ltb-false}
 use Rattle.slave.specs.declared.answer.Response.TheVariants.{Okay}
-use Rattle.slave.specs.Meaning.{Meaning, ByteKind, plain, unmapped, idle, dead, is_there}
+use Rattle.slave.specs.Meaning.{Meaning, board, ByteKind, plain, unmapped, idle, dead, is_there}
 use Rattle.slave.proofs.Calls.{give_kinds}
 use Rattle.ram.specs.Making.{make_refusal}
-use Rattle.ram.specs.Memory.{kind_at}
-use Rattle.ram.specs.Shows.{shows}
-use Rattle.ram.specs.declared.calls.Ram.{Ram}
+use Rattle.ram.specs.Memory.{kind_at, memory_board}
+use Rattle.ram.specs.Shows.{shows, ram_made}
+use Rattle.ram.specs.declared.ram.Ram.{Ram}
 use Rattle.splitter.specs.declared.splitter.Splitter.{Splitter}
-use Rattle.converter.specs.declared.state.Converter.{Converter}
+use Rattle.converter.specs.declared.converter.Converter.{Converter}
 use Rattle.register.specs.declared.held.Held.{Held}
-use Rattle.register.specs.declared.slice.RegisterSlice.{RegisterSlice}
-use Rattle.register.specs.Holds.{behind}
+use Rattle.register.specs.declared.register.RegisterSlice.{RegisterSlice}
+use Rattle.register.specs.Fits.{behind}
+use Rattle.register.specs.Making.{slice_made}
+use Rattle.converter.specs.Making.{converted_made}
+use Rattle.splitter.specs.Making.{make_answer, made_as}
 use Rattle.fabric.specs.Acts.{fits_below}
-use Rattle.history.specs.Bytes.{board}
-use Rattle.bench.specs.Piles.{stacked, pile_made, memory_board, converter_shows, pile_shows}
+use Rattle.bench.specs.Piles.{converter_shows, pile_shows}
+
+-- a slice over a converter of width 8 over a splitter in runs of 8 over a slave
+abbrev stacked : Meaning → Meaning
+stacked m = slice_made (converted_made (made_as (make_answer 8 m) m) 8)
+
+-- the pile over memory of width 4 that takes 8 beats at most
+abbrev pile_made : List ℕ → Meaning
+pile_made memory = stacked (ram_made memory 4 8)
 
 -- the pile over such memory is the pile over live memory
 pub pile_over : (xs : List ℕ) → length xs ≡ 8192 → pile_made xs ≡ stacked (shows xs 4 8 idle Okay idle)

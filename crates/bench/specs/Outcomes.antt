@@ -1,13 +1,13 @@
 -- Why a call is refused, how a record of a script ends, and what is told of it.
 use Rattle.std.specs.Prelude.{ℕ, List, ◌∷◌, Some, None, Ok, Err, Option, Result}
-use Rattle.slave.specs.Meaning.{Meaning}
+use Rattle.slave.specs.Meaning.{Meaning, Board}
 use Rattle.fabric.specs.declared.types.Act.{Act}
 use Rattle.fabric.specs.declared.types.Answer.{Answer}
 use Rattle.fabric.specs.declared.types.FabricFault.{FabricFault}
 use Rattle.fabric.specs.Numbers.{fabric_number}
 use Rattle.fabric.specs.Channels.{Channels}
 use Rattle.history.specs.History.{History}
-use Rattle.history.specs.Bytes.{Board}
+
 use Rattle.history.specs.Owed.{owed}
 use Rattle.history.specs.Tracks.{act_answer, act_after, act_slave}
 use Rattle.report.specs.declared.told.Layer.TheVariants.{Bench}

@@ -1,11 +1,11 @@
 -- The report of records, and the run that they make.
 use Rattle.std.specs.Prelude.{◌≡◌, ℕ, zero, suc, ◌/◌, List, [], ◌++◌, length, Result}
-use Rattle.slave.specs.Meaning.{Meaning}
+use Rattle.slave.specs.Meaning.{Meaning, Board}
 use Rattle.fabric.specs.declared.types.Act.{Act}
 use Rattle.fabric.specs.declared.types.Answer.{Answer}
 use Rattle.fabric.specs.Channels.{Channels}
 use Rattle.history.specs.History.{History}
-use Rattle.history.specs.Bytes.{Board}
+
 use Rattle.history.specs.Law.{Holds}
 use Rattle.history.specs.Tracks.{Tracks}
 use Rattle.script.specs.declared.fault.ScriptFault.{ScriptFault}

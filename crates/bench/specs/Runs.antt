@@ -1,7 +1,7 @@
 -- The whole report of a file, and what the bench answers and leaves.
 use Rattle.std.specs.Prelude.{ℕ, Bool, if◌then◌else◌, ◌&&◌, List, ◌++◌, length, drop, Ok, Err, Result, ◌==◌, nat_le}
 use Rattle.history.specs.History.{History}
-use Rattle.history.specs.Bytes.{Board}
+use Rattle.slave.specs.Meaning.{Board}
 use Rattle.script.specs.Files.{header_of, opens, records_of, image_of}
 use Rattle.bench.specs.declared.fault.BenchFault.TheVariants.{Header}
 use Rattle.bench.specs.declared.fault.CallFault.{CallFault}

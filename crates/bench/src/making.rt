@@ -1,8 +1,9 @@
 // The pile that a script runs over, and its memory.
-ghost use Rattle.bench.specs.Piles.{Piled, loaded, memory_board, pile_shows};
+ghost use Rattle.ram.specs.Memory.{memory_board};
+ghost use Rattle.bench.specs.Piles.{Piled, loaded, pile_shows};
 ghost use Rattle.bench.specs.declared.fault.CallFault.TheVariants.{Memory};
 ghost use Rattle.fabric.specs.Acts.{fits_below};
-ghost use Rattle.history.specs.Bytes.{board};
+ghost use Rattle.slave.specs.Meaning.{board};
 ghost use Rattle.std.specs.Prelude.{◌≡◌, ◌≤◌, true, length, is_ok, IfOk, IfErr, vec_len, ◌==◌};
 
 use crate::fault::CallFault;

@@ -4,7 +4,7 @@ ghost use Rattle.bench.specs.Outcomes.{lifted, outcome_line, record_after, recor
 ghost use Rattle.bench.specs.Reports.{EndsRight, Ran, script_report};
 ghost use Rattle.bench.specs.Sinks.{Takes};
 ghost use Rattle.fabric.specs.Channels.{channels_of};
-ghost use Rattle.history.specs.Bytes.{board};
+ghost use Rattle.slave.specs.Meaning.{board};
 ghost use Rattle.history.specs.Tracks.{Tracks};
 
 use crate::fault::BenchFault;

@@ -3,7 +3,7 @@ ghost use Rattle.bench.specs.Piles.{Piled, image_board, loaded, pile_shows};
 ghost use Rattle.bench.specs.Reports.{script_history, script_report};
 ghost use Rattle.bench.specs.Runs.{bench_after, bench_answer, file_board, file_history, header_line, runs};
 ghost use Rattle.fabric.specs.Channels.{channels_of};
-ghost use Rattle.history.specs.Bytes.{board};
+ghost use Rattle.slave.specs.Meaning.{board};
 ghost use Rattle.history.specs.Law.{Holds};
 ghost use Rattle.history.specs.Tracks.{Tracks};
 ghost use Rattle.report.specs.Lines.{written};

@@ -4,11 +4,11 @@ use Rattle.fabric.specs.declared.types.Act.{Act}
 use Rattle.fabric.specs.declared.types.Act.TheVariants.{Request as Ask, Grant, Put, Take}
 use Rattle.fabric.specs.declared.types.Answer.{Answer}
 use Rattle.fabric.specs.declared.types.FabricFault.{FabricFault}
-use Rattle.slave.specs.Meaning.{Meaning}
+use Rattle.slave.specs.Meaning.{Meaning, Board}
 use Rattle.fabric.specs.Channels.{Channels}
 use Rattle.history.specs.Tracks.{act_answer, act_after, act_slave}
 use Rattle.history.specs.History.{History}
-use Rattle.history.specs.Bytes.{Board}
+
 use Rattle.history.specs.Owed.{owed, Run}
 use Rattle.history.specs.Tracks.{Tracks, GoesOn}
 use Rattle.history.proofs.Whole.{runs_hold}

@@ -16,7 +16,7 @@ use Rattle.fabric.specs.declared.types.FabricFault.TheVariants.{Unlawful, Source
 use Rattle.fabric.specs.Rows.{fresh}
 use Rattle.fabric.specs.Acts.{passed, where_passed, request_test, request_answer, request_after}
 use Rattle.history.specs.History.{Event, History, tally, same, waiting}
-use Rattle.history.specs.Bytes.{Board}
+use Rattle.slave.specs.Meaning.{Board}
 use Rattle.history.specs.Owed.{owed_request}
 use Rattle.history.proofs.Waits.{waiting_arrives}
 use Rattle.history.proofs.Bound.{since_none}

@@ -4,7 +4,7 @@ use Rattle.std.specs.List.{AllByRecursion as All}
 use Rattle.std.proofs.ByRecursion.{All-append}
 use Rattle.std.proofs.lemmas.Bool.{ltb-true, cases_Bool}
 use Rattle.std.proofs.lemmas.Bool.Decides.{nat_tests}
-use Rattle.burst.specs.Beats.{first_refusal}
+use Rattle.burst.specs.Beats.{first_refusal, IsLawful}
 use Rattle.slave.specs.declared.answer.Channel.{Channel}
 use Rattle.slave.specs.declared.answer.Channel.TheVariants.{Write, Read}
 use Rattle.fabric.specs.declared.types.Request.{Request}
@@ -12,7 +12,7 @@ use Rattle.fabric.specs.declared.types.Answer.TheVariants.{Accepted, Granted}
 use Rattle.fabric.specs.declared.types.FabricFault.{FabricFault}
 use Rattle.fabric.specs.declared.types.FabricFault.TheVariants.{Source, Full}
 use Rattle.history.specs.History.{Event, History, accepted, tally, asked, granting, moving, Filed, filed, requests, waiting, own, Going, started, one_more, current, burst_of, unfinished, opened}
-use Rattle.history.specs.Bytes.{Board}
+use Rattle.slave.specs.Meaning.{Board}
 use Rattle.history.specs.Owed.{owed, owed_request, owed_put_at, owed_take_at, Run}
 use Rattle.history.specs.Law.{BeatRight}
 use Rattle.history.proofs.EventActs.{cond_some, asked_act, put_act, take_act}
@@ -22,19 +22,19 @@ use Rattle.history.proofs.Bound.{grant_own}
 
 -- accepted requests have lawful bursts
 abbrev pub Lawful : Filed → Type 0
-Lawful q = first_refusal 8 q.request.burst ≡ 0
+Lawful q = IsLawful 8 q.request.burst
 
 -- a request that passes the tests has a lawful burst
 ask_passes : (a : Bool) (n : ℕ) (c : Bool) (f : FabricFault) → accepted (cond a (Err Source) (cond (ltb 0 n) (Err f) (cond c (Err Full) (Ok Accepted)))) ≡ true → n ≡ 0
 ask_passes a n c f e = grind (arith, nat_tests)
 
 -- so has one that is accepted
-pub ask_lawful : (ch : Channel) (h : History) (q : Request) → accepted (owed_request ch h q) ≡ true → first_refusal 8 q.burst ≡ 0
+pub ask_lawful : (ch : Channel) (h : History) (q : Request) → accepted (owed_request ch h q) ≡ true → IsLawful 8 q.burst
 unfolding owed_request
 ask_lawful ch h q e = ask_passes (ltb 3 q.master || ltb 15 q.qos) (first_refusal 8 q.burst) (leb 16 (length (waiting ch h))) _ e
 
 -- and the one that an event has accepted
-pub asked_lawful : (m : Board) (ch : Channel) (x : Event) (h : History) (q : Request) → x.answer ≡ owed m h x.act → asked ch x ≡ Some q → first_refusal 8 q.burst ≡ 0
+pub asked_lawful : (m : Board) (ch : Channel) (x : Event) (h : History) (q : Request) → x.answer ≡ owed m h x.act → asked ch x ≡ Some q → IsLawful 8 q.burst
 unfolding owed
 asked_lawful m ch x h q r e =
     let a = asked_act ch x q e in
@@ -52,7 +52,7 @@ requests_lawful m ch (x ∷ h) r = All-append Lawful (requests ch h) (filed (tal
 
 -- the burst of the channel's last grant
 pub record Within (g : Going) : Type 0 where
-  pub lawful : first_refusal 8 (burst_of g) ≡ 0
+  pub lawful : IsLawful 8 (burst_of g)
   pub within : g.beats ≤ (burst_of g).count
 
 abbrev pub WithinIf : Option Going → Type 0

@@ -7,7 +7,8 @@ use Rattle.slave.specs.declared.answer.Channel.TheVariants.{Write, Read}
 use Rattle.fabric.specs.declared.types.Act.{Act}
 use Rattle.fabric.specs.declared.types.Act.TheVariants.{Request as Ask, Grant, Put, Take}
 use Rattle.history.specs.History.{Event, History, accepted, tally, accepted_acts, requests, age, rank, pick, picked, waiting, own, Going, current, opened}
-use Rattle.history.specs.Bytes.{Board, strobes, stored, shown, word_read, worst}
+use Rattle.slave.specs.Meaning.{Board}
+use Rattle.history.specs.Bytes.{strobes, stored, shown, word_read, worst}
 use Rattle.history.specs.Owed.{owed, owed_request, owed_grant, owed_put_at, owed_take_at, Run}
 use Rattle.history.specs.Law.{RefusedForgotten}
 

@@ -3,14 +3,14 @@ use Rattle.std.proofs.Common.{◌≡◌, ℕ, suc, ◌+◌, ◌<◌, true, false
 use Rattle.std.specs.List.{AllByRecursion as All, remove}
 use Rattle.std.proofs.lemmas.Bool.{lt-ltb}
 use Rattle.burst.specs.declared.raw.RawBurst.{RawBurst}
-use Rattle.burst.specs.Beats.{first_refusal}
+use Rattle.burst.specs.Beats.{IsLawful}
 use Rattle.slave.specs.declared.answer.Channel.{Channel}
 use Rattle.slave.specs.declared.answer.Channel.TheVariants.{Write, Read}
 use Rattle.fabric.specs.declared.types.Act.TheVariants.{Grant}
 use Rattle.fabric.specs.declared.types.Answer.TheVariants.{Granted}
 use Rattle.fabric.specs.declared.types.FabricFault.{FabricFault}
 use Rattle.std.proofs.lemmas.List.{take-map, drop-map, map-append}
-use Rattle.slave.specs.Meaning.{Meaning, is_idle}
+use Rattle.slave.specs.Meaning.{Meaning, is_idle, Board}
 use Rattle.fabric.specs.declared.row.Row.{Row}
 use Rattle.fabric.specs.Channels.{Queue, with_queue}
 use Rattle.history.specs.Tracks.{row_of, open_of, stand_of, queue_after, channels_after, slave_after}
@@ -25,7 +25,7 @@ use Rattle.fabric.specs.Picking.{choice}
 use Rattle.fabric.specs.Acts.{passed, grant_row, grant_test, request_at, grant_answer, grant_after, grant_slave}
 use Rattle.fabric.proofs.Rule.{choice_picks}
 use Rattle.history.specs.History.{Event, History, tally, same, granting, blocked, candidates, rank, best, pick, requests, Filed, age, waiting, own, Going, current, opened}
-use Rattle.history.specs.Bytes.{Board}
+
 use Rattle.history.specs.Owed.{owed, owed_grant, Run}
 use Rattle.history.proofs.Responses.{worst_grant}
 use Rattle.history.proofs.Filing.{all_mem, without}
@@ -113,7 +113,7 @@ module _ (m : Board) (ch : Channel) (h : History) (run : Run m h) where
       refused_step m h (Grant ch) e _ _ _ o (rw t) (rw t (same_queue ch h)) (rw t)
 
   -- the picked request is lawful
-  lawful : (p : Filed) → own ch h ≡ Some p → first_refusal 8 p.request.burst ≡ 0
+  lawful : (p : Filed) → own ch h ≡ Some p → IsLawful 8 p.request.burst
   lawful p o = all_mem Lawful (requests ch h) (requests_lawful m ch h run) (waiting_in ch h (own_picks ch h p o).waits).0
 
   -- row k is picked, and it is that of p

@@ -10,7 +10,7 @@ use Rattle.fabric.specs.declared.types.Act.TheVariants.{Put}
 use Rattle.fabric.specs.declared.types.FabricFault.{FabricFault}
 use mathlib.Core.Path.{fun_ext}
 use Rattle.slave.specs.declared.answer.Response.TheVariants.{Okay}
-use Rattle.slave.specs.Meaning.{Meaning, busy}
+use Rattle.slave.specs.Meaning.{Meaning, busy, Board, board}
 use Rattle.fabric.specs.Channels.{Queue, with_queue, with_open}
 use Rattle.history.specs.Tracks.{stand_of, worst_kept, queue_after, channels_after, slave_after}
 use Rattle.slave.specs.declared.answer.SlaveFault.TheVariants.{Strobe}
@@ -22,7 +22,7 @@ use Rattle.fabric.specs.declared.types.FabricFault.TheVariants.{LastMark, NotOpe
 use Rattle.fabric.specs.Rows.{moved}
 use Rattle.fabric.specs.Acts.{passed, where_passed, carried, put_test, put_given, put_answer, put_after, put_slave}
 use Rattle.history.specs.History.{Event, History, same, Going, burst_of, opened}
-use Rattle.history.specs.Bytes.{Board, board, strobes, stored, response_written, worst}
+use Rattle.history.specs.Bytes.{strobes, stored, response_written, worst}
 use Rattle.history.specs.Owed.{owed, owed_put_at, put_of, is_last}
 use Rattle.history.proofs.Beats.{opened_current}
 use Rattle.history.proofs.Whole.{worst_put}

@@ -11,7 +11,8 @@ use mathlib.Core.Path.{fun_ext}
 use Rattle.fabric.specs.Channels.{Queue, with_queue}
 use Rattle.history.specs.Tracks.{row_of, queue_after, channels_after, slave_after}
 use Rattle.history.specs.History.{Event, History, accepted, same, asked, granting, moves, moving, waiting, Going, current, opened}
-use Rattle.history.specs.Bytes.{Board, strobes, strobes_at, stored, worst}
+use Rattle.slave.specs.Meaning.{Board}
+use Rattle.history.specs.Bytes.{strobes, strobes_at, stored, worst}
 use Rattle.history.proofs.Responses.{worst_other}
 use Rattle.history.proofs.Waits.{waiting_stays, since_other}
 

@@ -6,7 +6,8 @@ use Rattle.slave.specs.declared.answer.Response.TheVariants.{Okay}
 use Rattle.slave.specs.declared.answer.Channel.TheVariants.{Write}
 use Rattle.slave.specs.Lanes.{rank, worse}
 use Rattle.history.specs.History.{Event, History, granting, moving, current}
-use Rattle.history.specs.Bytes.{Board, response_at, worst, EachPutSince, SomePutSince}
+use Rattle.slave.specs.Meaning.{Board}
+use Rattle.history.specs.Bytes.{response_at, worst, EachPutSince, SomePutSince}
 use Rattle.history.specs.Law.{WorstAgrees}
 
 -- the worse of two is one of them, and neither is worse than it

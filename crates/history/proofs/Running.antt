@@ -6,7 +6,7 @@ use Rattle.slave.specs.declared.answer.Channel.TheVariants.{Write, Read}
 use Rattle.fabric.specs.declared.types.Act.{Act}
 use Rattle.fabric.specs.declared.types.Answer.{Answer}
 use Rattle.fabric.specs.declared.types.FabricFault.{FabricFault}
-use Rattle.slave.specs.Meaning.{Meaning, is_idle}
+use Rattle.slave.specs.Meaning.{Meaning, is_idle, Board, board}
 use Rattle.fabric.specs.Channels.{Channels}
 use Rattle.history.specs.Tracks.{queue_after, slave_after}
 use Rattle.std.proofs.lemmas.List.{take_all, take_more, take_more_set, length-take-le}
@@ -19,7 +19,7 @@ use Rattle.history.specs.declared.runs.RunFault.TheVariants.{Below}
 use Rattle.fabric.specs.Channels.{no_channels, no_requests}
 use Rattle.fabric.specs.Acts.{fits_below, create_answer}
 use Rattle.history.specs.History.{History, requests, picked, unpicked, waiting, current, opened}
-use Rattle.history.specs.Bytes.{Board, board, stored, worst}
+use Rattle.history.specs.Bytes.{stored, worst}
 use Rattle.history.specs.Owed.{Run}
 use Rattle.history.specs.Tracks.{Tracks, Extends}
 use Rattle.history.specs.Runs.{history_from, history_of, answers_from, answers_of, begin_answer, Performed}

@@ -5,7 +5,7 @@ use Rattle.slave.specs.declared.answer.Channel.{Channel}
 use Rattle.slave.specs.declared.answer.Channel.TheVariants.{Write, Read}
 use Rattle.fabric.specs.declared.types.Act.TheVariants.{Take}
 use Rattle.fabric.specs.declared.types.FabricFault.{FabricFault}
-use Rattle.slave.specs.Meaning.{Meaning, busy, is_at}
+use Rattle.slave.specs.Meaning.{Meaning, busy, is_at, Board}
 use Rattle.fabric.specs.Channels.{Queue, with_queue}
 use Rattle.history.specs.Tracks.{stand_of, queue_after, channels_after, slave_after}
 use Rattle.slave.specs.Acts.{past, took_answer}
@@ -13,7 +13,7 @@ use Rattle.slave.proofs.Calls.{take_taken, is_at_self}
 use Rattle.fabric.specs.declared.types.FabricFault.TheVariants.{NotOpen}
 use Rattle.fabric.specs.Acts.{take_test, take_shown, take_answer, take_after, take_slave}
 use Rattle.history.specs.History.{Event, History, same, Going, burst_of, opened}
-use Rattle.history.specs.Bytes.{Board, shown, word_read, response_read}
+use Rattle.history.specs.Bytes.{shown, word_read, response_read}
 use Rattle.history.specs.Owed.{owed, take_of}
 use Rattle.history.proofs.Quiet.{event, Quiet, opened_quiet, channels_with, stored_quiet, worst_quiet}
 use Rattle.history.proofs.Steps.{Step, ActStep, refused_step, accepted_step}

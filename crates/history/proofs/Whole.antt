@@ -14,7 +14,8 @@ use Rattle.slave.specs.Lanes.{stray, worse}
 use Rattle.slave.specs.Acts.{left}
 use Rattle.fabric.specs.declared.types.FabricFault.TheVariants.{LastMark, OtherMaster, Place, Slave}
 use Rattle.history.specs.History.{Event, History, Throughout, accepted, granting, moving, Filed, among, with_one, picked, own, Going, current, burst_of, unfinished, opened}
-use Rattle.history.specs.Bytes.{Board, BytesSmall, response_at, worst}
+use Rattle.slave.specs.Meaning.{Board}
+use Rattle.history.specs.Bytes.{BytesSmall, response_at, worst}
 use Rattle.history.specs.Owed.{owed, owed_request, owed_grant, is_last, Run}
 use Rattle.history.specs.Law.{GrantedIn, Whole, GrantRight, BeatRight, PutRight, TakeRight, Holds, WorstAgrees}
 use Rattle.history.proofs.EventActs.{put_act}

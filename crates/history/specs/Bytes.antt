@@ -1,12 +1,12 @@
 -- Bytes over a history: what the puts have written, what a read shows, and the responses.
-use Rattle.std.specs.Prelude.{◌≡◌, ℕ, ◌%◌, ◌<◌, Bool, true, false, cond, ◌&&◌, ◌⊎◌, List, [], ◌∷◌, ◌++◌, Some, None, Option}
+use Rattle.std.specs.Prelude.{◌≡◌, ℕ, ◌%◌, ◌<◌, Bool, true, false, if◌then◌else◌, ◌&&◌, ◌⊎◌, List, [], ◌∷◌, ◌++◌, Some, None, Option}
 use Rattle.burst.specs.declared.raw.RawBurst.{RawBurst}
 use Rattle.burst.specs.Beats.{cover_of, bit}
 use Rattle.burst.specs.Laws.{covered}
 use Rattle.slave.specs.declared.answer.Response.{Response}
 use Rattle.slave.specs.declared.answer.Response.TheVariants.{Okay}
 use Rattle.slave.specs.declared.answer.Channel.TheVariants.{Write}
-pub use Rattle.slave.specs.Meaning.{Board, board}
+use Rattle.slave.specs.Meaning.{Board}
 use Rattle.slave.specs.Lanes.{lane_byte, worse, is_plain, read_word, read_worst, write_worst}
 use Rattle.slave.specs.Lanes.{shown as byte_shown}
 use Rattle.fabric.specs.declared.types.Act.{Act}
@@ -57,7 +57,7 @@ pub record Latest (h : History) (a v : ℕ) : Type 0 where
 -- the byte held at the address a: at a plain one that of the latest put, else that of the creation
 unfoldable pub stored : Board → History → ℕ → ℕ
 stored m [] a = m.bytes a
-stored m (x ∷ before) a = cond (strobes before x a && is_plain (m.kinds a)) (byte_in x a) (stored m before a)
+stored m (x ∷ before) a = if strobes before x a && is_plain (m.kinds a) then byte_in x a else stored m before a
 
 -- the bytes and kinds after a history
 abbrev pub board_after : Board → History → Board
@@ -91,8 +91,8 @@ response_at m (Some g) Take = Okay
 unfoldable pub worst : Board → History → Response
 worst m [] = Okay
 worst m (x ∷ before) =
-    cond (granting Write x) Okay
-    (cond (moving Write x) (worse (worst m before) (response_at m (current Write before) x.act)) (worst m before))
+    if granting Write x then Okay
+    else (if moving Write x then worse (worst m before) (response_at m (current Write before) x.act) else worst m before)
 
 -- P holds of each put accepted since the last accepted grant of a write
 abbrev pub EachPutSince : (Event → History → Type 0) → History → Type 0

@@ -5,7 +5,7 @@ use Rattle.burst.specs.Laws.{covered}
 use Rattle.slave.specs.declared.answer.Response.TheVariants.{Okay}
 use Rattle.slave.specs.declared.answer.Channel.{Channel}
 use Rattle.slave.specs.declared.answer.Channel.TheVariants.{Write, Read}
-use Rattle.slave.specs.Meaning.{plain, read_only, is_there}
+use Rattle.slave.specs.Meaning.{plain, read_only, is_there, Board}
 use Rattle.slave.specs.Lanes.{lane_byte, is_plain}
 use Rattle.slave.specs.Lanes.{rank as response_rank}
 use Rattle.slave.specs.Acts.{left}
@@ -13,7 +13,7 @@ use Rattle.fabric.specs.declared.types.Act.{Act}
 use Rattle.fabric.specs.declared.types.Answer.TheVariants.{Granted, More, Done, Beat}
 use Rattle.fabric.specs.declared.types.FabricFault.TheVariants.{Place}
 use Rattle.history.specs.History.{Event, History, Throughout, Sometime, tally, accepted_acts, granting, moving, Filed, requests, age, same_source, own, Picks, Going, current, burst_of}
-use Rattle.history.specs.Bytes.{Board, NeverStrobed, Latest, stored, response_read, response_at, worst, EachPutSince, SomePutSince}
+use Rattle.history.specs.Bytes.{NeverStrobed, Latest, stored, response_read, response_at, worst, EachPutSince, SomePutSince}
 use Rattle.history.specs.Owed.{owed, Run}
 
 -- what the word of a take shows

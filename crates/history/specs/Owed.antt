@@ -1,5 +1,5 @@
 -- The answer that is owed to each act after a history, over a slave with the bytes and kinds m at the creation.
-use Rattle.std.specs.Prelude.{◌≡◌, ℕ, ◌+◌, Bool, cond, not, ◌||◌, length, is_some, Some, None, Ok, Err, Option, Result, ◌==◌, nat_le, nat_lt}
+use Rattle.std.specs.Prelude.{◌≡◌, ℕ, ◌+◌, Bool, if◌then◌else◌, not, ◌||◌, length, is_some, Some, None, Ok, Err, Option, Result, ◌==◌, nat_le, nat_lt}
 use Rattle.std.specs.Bool.{beq}
 use Rattle.burst.specs.Rules.{fault_at}
 use Rattle.burst.specs.Beats.{first_refusal, address_of, last_of}
@@ -16,15 +16,16 @@ use Rattle.fabric.specs.declared.types.Answer.TheVariants.{Accepted, Granted, Mo
 use Rattle.fabric.specs.declared.types.FabricFault.{FabricFault}
 use Rattle.fabric.specs.declared.types.FabricFault.TheVariants.{Unlawful, LastMark, NotOpen, AlreadyOpen, Source, Full, NoneWaiting, OtherMaster, Slave}
 use Rattle.history.specs.History.{History, Throughout, Filed, waiting, own, Going, burst_of, opened}
-use Rattle.history.specs.Bytes.{Board, word_read, response_read, response_written, worst}
+use Rattle.slave.specs.Meaning.{Board}
+use Rattle.history.specs.Bytes.{word_read, response_read, response_written, worst}
 
 -- a request of a master above 3 or with a QoS above 15, with an unlawful burst, or where sixteen wait, is refused
 unfoldable pub owed_request : Channel → History → Request → Result Answer FabricFault
 owed_request ch h q =
-    cond (nat_lt 3 q.master || nat_lt 15 q.qos) (Err Source)
-    (cond (nat_lt 0 (first_refusal 8 q.burst)) (Err (Unlawful (fault_at (first_refusal 8 q.burst))))
-    (cond (nat_le 16 (length (waiting ch h))) (Err Full)
-    (Ok Accepted)))
+    if nat_lt 3 q.master || nat_lt 15 q.qos then Err Source
+    else (if nat_lt 0 (first_refusal 8 q.burst) then Err (Unlawful (fault_at (first_refusal 8 q.burst)))
+    else (if nat_le 16 (length (waiting ch h)) then Err Full
+    else Ok Accepted))
 
 -- a grant answers the master and the ID of the request that it picks
 abbrev pub grant_of : Option Filed → Result Answer FabricFault
@@ -33,7 +34,7 @@ grant_of (Some q) = Ok (Granted q.request.master q.request.id)
 
 -- one that finds an open request is refused
 unfoldable pub owed_grant : Channel → History → Result Answer FabricFault
-owed_grant ch h = cond (is_some (opened ch h)) (Err AlreadyOpen) (grant_of (own ch h))
+owed_grant ch h = if is_some (opened ch h) then Err AlreadyOpen else grant_of (own ch h)
 
 -- the next beat is the burst's last
 abbrev pub is_last : Going → Bool
@@ -42,18 +43,18 @@ is_last g = g.beats + 1 == (burst_of g).count
 -- what a put answers that is not refused: the beats left, or after the last one the worst response
 abbrev pub put_of : Board → History → Going → ℕ → Answer
 put_of m h g s =
-    cond (is_last g)
-    (Done g.from.request.master g.from.request.id (worse (worst m h) (response_written m (burst_of g) g.beats s)))
-    (More (left (burst_of g) g.beats))
+    if is_last g
+    then Done g.from.request.master g.from.request.id (worse (worst m h) (response_written m (burst_of g) g.beats s))
+    else More (left (burst_of g) g.beats)
 
 -- a put without an open write, of another master, with a wrong last mark, or with a strobe outside the beat's lanes is refused
 abbrev pub owed_put_at : Board → History → Option Going → ℕ → ℕ → Bool → Result Answer FabricFault
 owed_put_at m h None master s mark = Err NotOpen
 owed_put_at m h (Some g) master s mark =
-    cond (not (g.from.request.master == master)) (Err OtherMaster)
-    (cond (not (beq mark (is_last g))) (Err LastMark)
-    (cond (stray 8 (address_of (burst_of g) g.beats) (last_of (burst_of g) g.beats) s) (Err (Slave Strobe))
-    (Ok (put_of m h g s))))
+    if not (g.from.request.master == master) then Err OtherMaster
+    else (if not (beq mark (is_last g)) then Err LastMark
+    else (if stray 8 (address_of (burst_of g) g.beats) (last_of (burst_of g) g.beats) s then Err (Slave Strobe)
+    else Ok (put_of m h g s)))
 
 -- what a take answers
 abbrev pub take_of : Board → History → Going → Answer

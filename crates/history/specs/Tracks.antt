@@ -4,7 +4,7 @@ use Rattle.slave.specs.declared.answer.Response.{Response}
 use Rattle.slave.specs.declared.answer.Response.TheVariants.{Okay}
 use Rattle.slave.specs.declared.answer.Channel.{Channel}
 use Rattle.slave.specs.declared.answer.Channel.TheVariants.{Write, Read}
-use Rattle.slave.specs.Meaning.{Meaning, Stand, idle, busy}
+use Rattle.slave.specs.Meaning.{Meaning, Stand, idle, busy, Board}
 use Rattle.fabric.specs.declared.types.Act.{Act}
 use Rattle.fabric.specs.declared.types.Act.TheVariants.{Request as Ask, Grant, Put, Take}
 use Rattle.fabric.specs.declared.types.Answer.{Answer}
@@ -14,7 +14,7 @@ use Rattle.fabric.specs.declared.row.Open.{Open}
 use Rattle.fabric.specs.Channels.{Queue, Channels, queue_at, with_queue}
 use Rattle.fabric.specs.Acts.{request_answer, request_after, grant_answer, grant_after, grant_slave, put_answer, put_after, put_slave, take_answer, take_after, take_slave}
 use Rattle.history.specs.History.{History, Filed, age, waiting, Going, burst_of, opened}
-use Rattle.history.specs.Bytes.{Board, BytesSmall, stored, worst}
+use Rattle.history.specs.Bytes.{BytesSmall, stored, worst}
 use Rattle.history.specs.Owed.{Run}
 use Rattle.history.specs.Law.{Holds}
 

@@ -2,7 +2,7 @@
 // at the slave between two acts.
 ghost use Rattle.std.specs.Prelude.{◌≡◌, ◌≤◌, false, [], length, is_ok, OnOk};
 ghost use Rattle.fabric.specs.Channels.{channels_of};
-ghost use Rattle.history.specs.Bytes.{board};
+ghost use Rattle.slave.specs.Meaning.{board};
 ghost use Rattle.history.specs.Runs.{Performed, begin_answer, run_answer, run_number};
 ghost use Rattle.history.specs.Tracks.{Extends, Tracks, act_answer, act_after, act_slave};
 

@@ -5,7 +5,7 @@ ghost use Rattle.burst.specs.Rules.{kind_code};
 ghost use Rattle.std.specs.Prelude.{◌≡◌};
 ghost use Rattle.converter.specs.Making.{converted_made};
 ghost use Rattle.ram.specs.Shows.{ram_made};
-ghost use Rattle.register.specs.Holds.{slice_made};
+ghost use Rattle.register.specs.Making.{slice_made};
 ghost use Rattle.splitter.specs.Making.{make_answer, made_as};
 
 use converter::Converter;

@@ -1,5 +1,5 @@
 -- A line tells its act's number and outcome.
-use Rattle.std.specs.Prelude.{◌≡◌, ℕ, ◌^◌, ◌<◌, cond, List, ◌++◌, Ok, Err, ◌==◌}
+use Rattle.std.specs.Prelude.{◌≡◌, ℕ, ◌^◌, ◌<◌, if◌then◌else◌, List, ◌++◌, Ok, Err, ◌==◌}
 use Rattle.fabric.specs.declared.types.Answer.{Answer}
 use Rattle.fabric.specs.declared.types.Answer.TheVariants.{Accepted, Granted, More, Done, Beat}
 use Rattle.report.specs.Outcomes.{Told}
@@ -24,7 +24,7 @@ answer_shown Accepted = Accepted
 answer_shown (Granted master id) = Granted master id
 answer_shown (More left) = More left
 answer_shown (Done master id r) = Done master id r
-answer_shown (Beat master id word r left) = Beat master id word r (cond (left == 0) 0 1)
+answer_shown (Beat master id word r left) = Beat master id word r (if left == 0 then 0 else 1)
 
 -- an outcome as far as a line tells it
 abbrev pub shown : Told → Told

@@ -1,5 +1,5 @@
 -- The bytes of a report line.
-use Rattle.std.specs.Prelude.{ℕ, zero, suc, ◌/◌, ◌%◌, true, cond, List, [], ◌∷◌, ◌++◌, length, drop, codes, decimal, Ok, Err, ◌==◌, nat_le}
+use Rattle.std.specs.Prelude.{ℕ, zero, suc, ◌/◌, ◌%◌, true, cond, if◌then◌else◌, List, [], ◌∷◌, ◌++◌, length, drop, codes, decimal, Ok, Err, ◌==◌, nat_le}
 use Rattle.std.specs.Fmt.{digit_glyph}
 use Rattle.slave.specs.declared.answer.Response.{Response}
 use Rattle.slave.specs.declared.answer.Response.TheVariants.{Okay, SlvErr, DecErr}
@@ -57,4 +57,4 @@ line act told = decimal act ++ (32 ∷ (words told ++ 10 ∷ []))
 
 -- a buffer after a line went to its front, or as it was where the line is longer
 abbrev pub written : List ℕ → List ℕ → List ℕ
-written l out = cond (nat_le (length l) (length out)) (l ++ drop (length l) out) out
+written l out = if nat_le (length l) (length out) then l ++ drop (length l) out else out

@@ -1,5 +1,5 @@
 -- What is told of an outcome, and the fault of a short buffer.
-use Rattle.std.specs.Prelude.{ℕ, cond, List, length, Ok, Err, Result, nat_le}
+use Rattle.std.specs.Prelude.{ℕ, if◌then◌else◌, List, length, Ok, Err, Result, nat_le}
 use Rattle.fabric.specs.declared.types.Answer.{Answer}
 use Rattle.fabric.specs.declared.types.FabricFault.{FabricFault}
 use Rattle.fabric.specs.declared.types.FabricFault.TheVariants.{Slave}
@@ -34,4 +34,4 @@ report_number Short = 22
 
 -- what writing a line into a buffer answers: its length, or that the buffer is too short
 abbrev pub write_answer : List ℕ → List ℕ → Result ℕ ReportFault
-write_answer l out = cond (nat_le (length l) (length out)) (Ok (length l)) (Err Short)
+write_answer l out = if nat_le (length l) (length out) then Ok (length l) else Err Short

@@ -1,5 +1,5 @@
 -- Acts as records: what each code uses, and that nothing else stands.
-use Rattle.std.specs.Prelude.{ℕ, ◌+◌, ◌-◌, Bool, true, cond, ◌&&◌, List, ◌++◌, length, drop, Some, None, Ok, Err, Option, Result, ◌==◌, nat_le}
+use Rattle.std.specs.Prelude.{ℕ, ◌+◌, ◌-◌, Bool, true, if◌then◌else◌, ◌&&◌, List, ◌++◌, length, drop, Some, None, Ok, Err, Option, Result, ◌==◌, nat_le}
 use Rattle.slave.specs.declared.answer.Channel.{Channel}
 use Rattle.slave.specs.declared.answer.Channel.TheVariants.{Write, Read}
 use Rattle.fabric.specs.declared.types.Act.{Act}
@@ -36,26 +36,26 @@ no_beat r = r.last == 0 && (r.strobe == 0 && r.word == 0)
 
 -- a record that codes 0 and 1 take: a request
 abbrev pub request_answer : Channel → Record → Result Act ScriptFault
-request_answer channel r = cond (no_beat r && r.zeros == 0) (Ok (Request channel (request_of r))) (Err BadRecord)
+request_answer channel r = if no_beat r && r.zeros == 0 then Ok (Request channel (request_of r)) else Err BadRecord
 
 -- a record that code 4 takes: a put, with a last mark of 0 or 1
 abbrev pub put_answer : Record → Result Act ScriptFault
-put_answer r = cond (no_burst r && (r.zeros == 0 && nat_le r.last 1)) (Ok (Put r.master r.word r.strobe (r.last == 1))) (Err BadRecord)
+put_answer r = if no_burst r && (r.zeros == 0 && nat_le r.last 1) then Ok (Put r.master r.word r.strobe (r.last == 1)) else Err BadRecord
 
 -- a record that codes 2, 3 and 5 take: nothing but the code
 abbrev pub bare_answer : Act → Record → Result Act ScriptFault
-bare_answer act r = cond (r.master == 0 && (no_burst r && (no_beat r && r.zeros == 0))) (Ok act) (Err BadRecord)
+bare_answer act r = if r.master == 0 && (no_burst r && (no_beat r && r.zeros == 0)) then Ok act else Err BadRecord
 
 -- the act of a record by its code
 abbrev pub act_of : Record → Result Act ScriptFault
 act_of r =
-    cond (r.code == 0) (request_answer Write r)
-    (cond (r.code == 1) (request_answer Read r)
-    (cond (r.code == 2) (bare_answer (Grant Write) r)
-    (cond (r.code == 3) (bare_answer (Grant Read) r)
-    (cond (r.code == 4) (put_answer r)
-    (cond (r.code == 5) (bare_answer Take r)
-    (Err BadRecord))))))
+    if r.code == 0 then request_answer Write r
+    else (if r.code == 1 then request_answer Read r
+    else (if r.code == 2 then bare_answer (Grant Write) r
+    else (if r.code == 3 then bare_answer (Grant Read) r
+    else (if r.code == 4 then put_answer r
+    else (if r.code == 5 then bare_answer Take r
+    else Err BadRecord)))))
 
 -- the act of a record, if bytes are one
 abbrev pub act_in : Option Record → Result Act ScriptFault
@@ -90,12 +90,12 @@ act_record (Request channel q) =
       address = q.burst.start;
     }
 act_record (Grant channel) = only (code_of (Grant channel))
-act_record (Put master word strobe last) = record (only PutCode) { master = master; last = cond last 1 0; strobe = strobe; word = word }
+act_record (Put master word strobe last) = record (only PutCode) { master = master; last = if last then 1 else 0; strobe = strobe; word = word }
 act_record Take = only TakeCode
 
 -- the record of an act, if one can hold it
 abbrev pub record_answer : Act → Result Record ScriptFault
-record_answer act = cond (writable act) (Ok (act_record act)) (Err BadRecord)
+record_answer act = if writable act then Ok (act_record act) else Err BadRecord
 
 -- the 24 bytes of an act
 abbrev pub act_bytes : Act → List ℕ
@@ -103,8 +103,8 @@ act_bytes act = record_bytes (act_record act)
 
 -- what writing an act into a buffer answers: first the act is tested, then the buffer
 abbrev pub write_answer : Act → List ℕ → Result ℕ ScriptFault
-write_answer act out = cond (writable act) (cond (nat_le 24 (length out)) (Ok 24) (Err Short)) (Err BadRecord)
+write_answer act out = if writable act then (if nat_le 24 (length out) then Ok 24 else Err Short) else Err BadRecord
 
 -- a buffer after an act was written to its front, or as it was
 abbrev pub written : Act → List ℕ → List ℕ
-written act out = cond (writable act && nat_le 24 (length out)) (act_bytes act ++ drop 24 out) out
+written act out = if writable act && nat_le 24 (length out) then act_bytes act ++ drop 24 out else out

@@ -1,5 +1,5 @@
 -- The parts of a script file: a header of 8 bytes, records of 24 bytes, and the image.
-use Rattle.std.specs.Prelude.{◌≡◌, ℕ, ◌+◌, ◌*◌, ◌/◌, ◌<◌, ◌≤◌, Bool, true, false, cond, ◌&&◌, ◌||◌, List, length, take, drop, Some, None, Option, Result, MatchResult, ◌==◌, nat_le, nat_lt}
+use Rattle.std.specs.Prelude.{◌≡◌, ℕ, ◌+◌, ◌*◌, ◌/◌, ◌<◌, ◌≤◌, Bool, true, false, if◌then◌else◌, ◌&&◌, ◌||◌, List, length, take, drop, Some, None, Option, Result, MatchResult, ◌==◌, nat_le, nat_lt}
 use Rattle.std.specs.Borrow.{Bor}
 use Rattle.std.specs.Int.{w32, from_le_bytes}
 use Rattle.script.specs.declared.fault.ScriptFault.{ScriptFault}
@@ -37,7 +37,7 @@ image_of file = drop (24 * (header_of file).acts) (drop 8 file)
 
 -- record i of the records, none past the last
 abbrev pub record_at : List ℕ → ℕ → Option (List ℕ)
-record_at records i = cond (nat_lt i (length records / 24)) (Some (take 24 (drop (24 * i) records))) None
+record_at records i = if nat_lt i (length records / 24) then Some (take 24 (drop (24 * i) records)) else None
 
 -- what splitting a header off a file answers: the header and what follows, or that the file has not 8 bytes
 abbrev pub Split : List ℕ → Result (Header × Bor (List ℕ)) ScriptFault → Type 0

@@ -1,5 +1,5 @@
 -- The fields of a record of 24 bytes.
-use Rattle.std.specs.Prelude.{ℕ, cond, List, ◌∷◌, ◌++◌, length, take, drop, Some, None, Option, ◌==◌, slice_index}
+use Rattle.std.specs.Prelude.{ℕ, if◌then◌else◌, List, ◌∷◌, ◌++◌, length, take, drop, Some, None, Option, ◌==◌, slice_index}
 use Rattle.std.specs.Int.{w32, w64, from_le_bytes, to_le_bytes}
 use Rattle.script.specs.declared.record.Record.{Record}
 
@@ -23,7 +23,7 @@ record_of bytes =
 
 -- bytes of another length are no record
 abbrev pub read_record : List ℕ → Option Record
-read_record bytes = cond (length bytes == 24) (Some (record_of bytes)) None
+read_record bytes = if length bytes == 24 then Some (record_of bytes) else None
 
 -- the bytes of the fields
 abbrev pub record_bytes : Record → List ℕ

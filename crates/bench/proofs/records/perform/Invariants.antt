@@ -1,5 +1,5 @@
 use Rattle.fabric.specs.Channels.{channels_of}
-use Rattle.history.specs.Bytes.{board}
+use Rattle.slave.specs.Meaning.{board}
 use Rattle.bench.proofs.Sofar.{Sofar}
 use Rattle.bench.proofs.records.perform.Given as goal
 

@@ -1,8 +1,8 @@
 -- The run leaves a pile that answers and shows the kinds of its memory, and so the memory's length.
 use Rattle.std.proofs.Common.{◌≡◌, ℕ, ◌≤◌, List, length, vec_len, sym, ap, ◌∙◌, subst}
-use Rattle.slave.specs.Meaning.{Meaning}
-use Rattle.ram.specs.declared.calls.Ram.{Ram}
-use Rattle.history.specs.Bytes.{Board}
+use Rattle.slave.specs.Meaning.{Meaning, Board}
+use Rattle.ram.specs.declared.ram.Ram.{Ram}
+
 use Rattle.bench.specs.Piles.{loaded}
 use Rattle.bench.proofs.Calls.{length_loaded}
 use Rattle.bench.proofs.Stacks.{pile_length}

@@ -1,7 +1,8 @@
 -- The law holds where a script is run: not over memory of another length, nor where its report does not fit.
 use Rattle.std.proofs.Common.{◌≡◌, ℕ, arith, true, false, eqb, leb, List, length, vec_len, sym, ap, ◌∙◌}
 use Rattle.std.proofs.lemmas.Bool.{lt-leb, ne_eqb, true≢false}
-use Rattle.bench.specs.Piles.{loaded, memory_board}
+use Rattle.ram.specs.Memory.{memory_board}
+use Rattle.bench.specs.Piles.{loaded}
 use Rattle.bench.specs.Reports.{script_report}
 use Rattle.bench.specs.Runs.{report_of}
 use Rattle.bench.proofs.Calls.{runs_is, script_is, script_holds, never_runs}

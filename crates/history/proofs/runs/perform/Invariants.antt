@@ -1,5 +1,5 @@
 use Rattle.fabric.specs.Channels.{channels_of}
-use Rattle.history.specs.Bytes.{board}
+use Rattle.slave.specs.Meaning.{board}
 use Rattle.history.proofs.Running.{PerformedTo}
 use Rattle.history.proofs.runs.perform.Given as goal
 
