@@ -3,7 +3,7 @@ use Rattle.std.specs.Prelude.{◌≡◌, ℕ, true, cond, List, [], ◌∷◌, O
 use Rattle.burst.specs.declared.raw.RawBurst.{RawBurst}
 use Rattle.slave.specs.declared.answer.Response.TheVariants.{Okay}
 use Rattle.slave.specs.declared.answer.Channel.TheVariants.{Write, Read}
-use Rattle.slave.specs.Meaning.{plain, unmapped}
+use Rattle.slave.specs.Meaning.{plain, unmapped, Board}
 use Rattle.fabric.specs.declared.types.Request.{Request}
 use Rattle.fabric.specs.declared.types.Act.{Act}
 use Rattle.fabric.specs.declared.types.Act.TheVariants.{Request as Ask, Grant, Put, Take}
@@ -11,7 +11,6 @@ use Rattle.fabric.specs.declared.types.Answer.{Answer}
 use Rattle.fabric.specs.declared.types.Answer.TheVariants.{Accepted, Granted, Done, Beat}
 use Rattle.fabric.specs.declared.types.FabricFault.{FabricFault}
 use Rattle.fabric.specs.declared.types.FabricFault.TheVariants.{NotOpen, AlreadyOpen, OtherMaster}
-use Rattle.history.specs.Bytes.{Board}
 use Rattle.history.specs.Runs.{answers_of}
 
 -- 8,192 plain bytes that begin with 11 22 33 44 (hexadecimal)

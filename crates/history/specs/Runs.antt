@@ -1,6 +1,6 @@
 -- Whole runs: a list of acts, the answers that are owed to them, and what a call that performs them answers and leaves.
 use Rattle.std.specs.Prelude.{◌≡◌, ℕ, cond, List, [], ◌∷◌, ◌++◌, length, take, drop, Ok, Err, Result, nat_lt}
-use Rattle.slave.specs.Meaning.{Meaning}
+use Rattle.slave.specs.Meaning.{Meaning, Board}
 use Rattle.fabric.specs.declared.types.Act.{Act}
 use Rattle.fabric.specs.declared.types.Answer.{Answer}
 use Rattle.fabric.specs.declared.types.FabricFault.{FabricFault}
@@ -9,7 +9,6 @@ use Rattle.fabric.specs.Acts.{fits_below}
 use Rattle.history.specs.declared.runs.RunFault.{RunFault}
 use Rattle.history.specs.declared.runs.RunFault.TheVariants.{Short, Below}
 use Rattle.history.specs.History.{History}
-use Rattle.history.specs.Bytes.{Board}
 use Rattle.history.specs.Owed.{owed}
 use Rattle.history.specs.Law.{Holds}
 use Rattle.history.specs.Tracks.{Tracks}
