@@ -3,21 +3,17 @@ use Rattle.std.proofs.Common.{◌≡◌, ℕ, ◌≤◌, true, false, cond, eqb,
 use Rattle.std.proofs.lemmas.Bool.{cond-true, ltb-false}
 use Rattle.slave.specs.declared.answer.Response.TheVariants.{Okay}
 use Rattle.slave.specs.Meaning.{Meaning, board, ByteKind, plain, unmapped, idle, dead, is_there}
-use Rattle.slave.proofs.Calls.{give_kinds}
 use Rattle.ram.specs.Making.{make_refusal}
 use Rattle.ram.specs.Memory.{kind_at, memory_board}
 use Rattle.ram.specs.Shows.{shows, ram_made}
 use Rattle.ram.specs.declared.ram.Ram.{Ram}
 use Rattle.splitter.specs.declared.splitter.Splitter.{Splitter}
 use Rattle.converter.specs.declared.converter.Converter.{Converter}
-use Rattle.register.specs.declared.held.Held.{Held}
-use Rattle.register.specs.declared.register.RegisterSlice.{RegisterSlice}
-use Rattle.register.specs.Fits.{behind}
 use Rattle.register.specs.Making.{slice_made}
 use Rattle.converter.specs.Making.{converted_made}
 use Rattle.splitter.specs.Making.{make_answer, made_as}
 use Rattle.fabric.specs.Acts.{fits_below}
-use Rattle.bench.specs.Piles.{converter_shows, pile_shows}
+use Rattle.bench.specs.Piles.{converter_shows}
 
 -- a slice over a converter of width 8 over a splitter in runs of 8 over a slave
 abbrev stacked : Meaning → Meaning
@@ -39,11 +35,6 @@ pile_fits xs e = ap fits_below (pile_over xs e)
 pub pile_board : (xs : List ℕ) → length xs ≡ 8192 → board (pile_made xs) ≡ memory_board xs
 pile_board xs e = ap board (pile_over xs e)
 
--- a slice shows the kinds below
-pub slice_kinds : (held : Option Held) (m : Meaning) → (behind m held).kinds ≡ m.kinds
-slice_kinds None m = refl
-slice_kinds (Some h) m = give_kinds m h.word h.strobe
-
 -- whether memory has a byte
 has_byte : (xs : List ℕ) (a : ℕ) → is_there (kind_at xs a) ≡ ltb a (length xs)
 has_byte xs a = elim (ltb a (length xs)) as (λ b. is_there (cond b plain unmapped) ≡ b) [ true ↦ refl | false ↦ refl ]
@@ -54,12 +45,11 @@ no_longer xs ys e =
     let same : ltb (length xs) (length xs) ≡ ltb (length xs) (length ys) = sym (has_byte xs (length xs)) ∙ ap (λ (k : ℕ → ByteKind). is_there (k (length xs))) e ∙ has_byte ys (length xs) in
     ltb-false (length xs) (length ys) (sym same ∙ le-ltb (length xs) (length xs) (omega arith))
 
--- a pile that shows the kinds of some memory stands over memory of that length
-pub pile_length : {a : _} {b : _} {c : _} (p : RegisterSlice (Converter (Splitter Ram a) b) c) (xs : List ℕ) → (pile_shows p).kinds ≡ kind_at xs → vec_len p.below.below.below.memory ≡ length xs
-pile_length p xs e =
-    let ys : List ℕ = vec_items p.below.below.below.memory in
-    let same : kind_at ys ≡ kind_at xs = sym (slice_kinds p.held (converter_shows p.below)) ∙ e in
-    let a = no_longer ys xs same in
-    let b = no_longer xs ys (sym same) in
-    let n = p.below.below.below.memory.ok.0 in
+-- a converter of the pile that shows the kinds of some memory stands over memory of that length
+pub pile_length : {a : _} {b : _} (q : Converter (Splitter Ram a) b) (xs : List ℕ) → (converter_shows q).kinds ≡ kind_at xs → vec_len q.below.below.memory ≡ length xs
+pile_length q xs e =
+    let ys : List ℕ = vec_items q.below.below.memory in
+    let a = no_longer ys xs e in
+    let b = no_longer xs ys (sym e) in
+    let n = q.below.below.memory.ok.0 in
     omega arith
