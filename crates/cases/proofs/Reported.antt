@@ -2,12 +2,12 @@
 use Rattle.std.proofs.Common.{◌≡◌, ℕ, Bool, true, false, cond, ◌&&◌, eqb, leb, List, length, take, drop, Ok, Err, Result, refl, ap, ◌∙◌, arith}
 use lib.Seq.{take-append_seam}
 use Rattle.std.proofs.lemmas.Bool.{cond-true}
-use Rattle.bench.specs.declared.fault.BenchFault.{BenchFault}
-use Rattle.bench.specs.declared.fault.BenchFault.TheVariants.{Memory, Short}
+use Rattle.bench.specs.declared.fault.CallFault.{CallFault}
+use Rattle.bench.specs.declared.fault.CallFault.TheVariants.{Memory, Short}
 use Rattle.bench.specs.Runs.{accepted, bench_answer, bench_after, report_of}
 
 -- a count is answered where both tests are passed
-tests_passed : (a b : Bool) (l n : ℕ) → ◌≡◌ {A = Result ℕ BenchFault} (Ok n) (cond a (cond b (Ok l) (Err Short)) (Err Memory)) → (a && b ≡ true) × (n ≡ l)
+tests_passed : (a b : Bool) (l n : ℕ) → ◌≡◌ {A = Result ℕ CallFault} (Ok n) (cond a (cond b (Ok l) (Err Short)) (Err Memory)) → (a && b ≡ true) × (n ≡ l)
 tests_passed true true l n e = (refl, cc)
 tests_passed true false l n e = let z : ◌≡◌ {A = ℕ} 0 1 = cc in absurd (omega arith)
 tests_passed false b l n e = let z : ◌≡◌ {A = ℕ} 0 1 = cc in absurd (omega arith)

@@ -1,1 +1,2 @@
--- none
+-- What is read through a buffer.
+pub mod Inputs

@@ -50,9 +50,15 @@ impl Handed {
         ensures report { IfOk result (λ h. h.report.items ≡ replicate REPORT_BYTES 0) }
         ensures want { IfErr result IsNoMemory }
     {
-        let memory = vec![in heap; 0u8; MEMORY_BYTES].map_err(|_| Want::Pile)?;
-        let report = vec![in heap; 0u8; REPORT_BYTES].map_err(|_| Want::Report)?;
-        let fabric = Fabric::new(heap).map_err(|_| Want::Fabric)?;
+        let Ok(memory) = vec![in heap; 0u8; MEMORY_BYTES] else {
+            return Err(Want::Pile);
+        };
+        let Ok(report) = vec![in heap; 0u8; REPORT_BYTES] else {
+            return Err(Want::Report);
+        };
+        let Ok(fabric) = Fabric::new(heap) else {
+            return Err(Want::Fabric);
+        };
         Ok(Handed {
             memory,
             report,
@@ -82,7 +88,11 @@ pub fn report<R: Read + Drop>(input: R, heap: Global) -> Result<Vec<u8>, Want>
     ensures { IfOk result (λ report. IfSome (R.Read.remaining input) (Reports report.items)) }
 {
     let handed = Handed::new(heap)?;
-    let input = BufReader::new(heap, input).map_err(|_| Want::Input)?;
-    let file = script::read(input, heap).map_err(|_| Want::Script)?;
+    let Ok(input) = BufReader::new(heap, input) else {
+        return Err(Want::Input);
+    };
+    let Ok(file) = script::read(input, heap) else {
+        return Err(Want::Script);
+    };
     Ok(handed.report(&file))
 }

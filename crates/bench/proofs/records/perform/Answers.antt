@@ -1,5 +1,5 @@
 -- Every record goes on with the run, and its line goes behind the others or ends it.
-use Rattle.std.proofs.Common.{◌≡◌, ◌/◌, length, arith}
+use Rattle.std.proofs.Common.{arith}
 use Rattle.std.proofs.lemmas.Result.{err_from_is_err_and}
 use Rattle.bench.proofs.Sofar.{record_read, sofar_none, sofar_more, no_room, ran}
 use Rattle.bench.proofs.records.perform.Goals as goal
