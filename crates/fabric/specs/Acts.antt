@@ -1,5 +1,5 @@
 -- What each call of the fabric answers, and the channel and the slave after it. A refused call leaves both as they were.
-use Rattle.std.specs.Prelude.{ℕ, Bool, cond, ◌&&◌, ◌||◌, [], ◌∷◌, ◌++◌, map, Some, None, Ok, Err, Option, Result, ◌==◌, nat_lt}
+use Rattle.std.specs.Prelude.{ℕ, Bool, if◌then◌else◌, not, ◌&&◌, ◌||◌, [], ◌∷◌, ◌++◌, map, Some, None, Ok, Err, Option, Result, ◌==◌, nat_lt}
 use Rattle.std.specs.Bool.{beq}
 use Rattle.std.specs.List.{remove}
 use Rattle.burst.specs.declared.raw.RawBurst.{RawBurst}
@@ -47,15 +47,15 @@ fits_below m = ready m && (m.full && m.width == 8)
 
 -- what create answers
 abbrev pub create_answer : Meaning → Result (Unit {0}) FabricFault
-create_answer m = cond (fits_below m) (Ok tt) (Err Below)
+create_answer m = if fits_below m then Ok tt else Err Below
 
 -- a burst that is lawful for width 8
 abbrev pub lawful_answer : RawBurst → Result (Unit {0}) FabricFault
-lawful_answer b = cond (first_refusal 8 b == 0) (Ok tt) (Err (Unlawful (fault_at (first_refusal 8 b))))
+lawful_answer b = if first_refusal 8 b == 0 then Ok tt else Err (Unlawful (fault_at (first_refusal 8 b)))
 
 -- a master above 3 or a QoS above 15 is no source of requests
 abbrev pub source_answer : Request → Result (Unit {0}) FabricFault
-source_answer r = cond (nat_lt 3 r.master || nat_lt 15 r.qos) (Err Source) (Ok tt)
+source_answer r = if nat_lt 3 r.master || nat_lt 15 r.qos then Err Source else Ok tt
 
 -- the tests of a request: its source, its burst, then the room
 abbrev pub request_test : Queue → Request → Result (Unit {0}) FabricFault
@@ -67,7 +67,7 @@ request_answer q r = passed (request_test q r) (λ _. Ok Accepted)
 
 -- the channel after a request: it waits behind all others
 abbrev pub request_after : Queue → Request → Queue
-request_after q r = where_passed (request_test q r) q (λ _. record { rows = q.rows ++ (fresh r ∷ []); current = q.current })
+request_after q r = where_passed (request_test q r) q (λ _. record q { rows = q.rows ++ (fresh r ∷ []) })
 
 -- the row that a grant picks where no request is open
 abbrev pub grant_row : Option Open → Option ℕ → Result ℕ FabricFault
@@ -77,7 +77,7 @@ grant_row None (Some k) = Ok k
 
 -- the tests of a grant: no open request, a picked one, the slave's idle place
 abbrev pub grant_test : Queue → Meaning → Channel → Result ℕ FabricFault
-grant_test q m ch = passed (grant_row q.current (choice q.rows)) (λ k. cond (is_idle (stand_at m ch)) (Ok k) (Err Place))
+grant_test q m ch = passed (grant_row q.current (choice q.rows)) (λ k. if is_idle (stand_at m ch) then Ok k else Err Place)
 
 -- the request of row k
 abbrev pub request_at : Queue → ℕ → Request
@@ -119,11 +119,9 @@ stands o m ch = is_at o.request.burst o.taken (stand_at m ch)
 abbrev pub put_test : Option Open → Meaning → ℕ → Bool → Result Open FabricFault
 put_test None m master last = Err NotOpen
 put_test (Some o) m master last =
-    cond (o.request.master == master)
-    (cond (stands o m Write)
-    (cond (beq last (is_last o)) (Ok o) (Err LastMark))
-    (Err Place))
-    (Err OtherMaster)
+    if not (o.request.master == master) then Err OtherMaster
+    else if not (stands o m Write) then Err Place
+    else if beq last (is_last o) then Ok o else Err LastMark
 
 -- what the fabric makes of a give's answer
 abbrev pub put_given : Open → Given → Answer
@@ -146,7 +144,7 @@ put_slave q m master w s last = where_passed (put_test q.current m master last) 
 -- the tests of a take: an open read, and the slave's place
 abbrev pub take_test : Option Open → Meaning → Result Open FabricFault
 take_test None m = Err NotOpen
-take_test (Some o) m = cond (stands o m Read) (Ok o) (Err Place)
+take_test (Some o) m = if stands o m Read then Ok o else Err Place
 
 -- what the fabric makes of a beat that the slave shows
 abbrev pub take_shown : Open → ℕ × Response × ℕ → Answer

@@ -37,12 +37,12 @@ queue_in f ch = queue_at (channels_of f) ch
 
 -- the channels with one of them changed
 abbrev pub with_queue : Channel → Queue → Channels → Channels
-with_queue Write q c = record { write = q; read = c.read }
-with_queue Read q c = record { write = c.write; read = q }
+with_queue Write q c = record c { write = q }
+with_queue Read q c = record c { read = q }
 
 -- the channel with another open request
 abbrev pub with_open : Option Open → Queue → Queue
-with_open o q = record { rows = q.rows; current = o }
+with_open o q = record q { current = o }
 
 -- a channel without requests
 abbrev pub no_requests : Queue

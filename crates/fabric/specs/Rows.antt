@@ -1,5 +1,5 @@
 -- Waiting requests in order of acceptance, the rule that picks one of them, and the open request.
-use Rattle.std.specs.Prelude.{◌≡◌, ℕ, ◌+◌, ◌<◌, ◌≤◌, min, Bool, true, cond, ◌&&◌, List, [], length, Some, None, Option, ◌==◌, ◌≢◌, nat_lt, slice_index_or}
+use Rattle.std.specs.Prelude.{◌≡◌, ℕ, ◌+◌, ◌<◌, ◌≤◌, min, Bool, true, if◌then◌else◌, ◌&&◌, List, [], length, Some, None, Option, ◌==◌, ◌≢◌, nat_lt, slice_index_or}
 use Rattle.fabric.specs.declared.types.Request.{Request}
 use Rattle.fabric.specs.declared.row.Row.{Row}
 use Rattle.fabric.specs.declared.row.Open.{Open}
@@ -18,7 +18,7 @@ fresh r = record { request = r; age = 0 }
 
 -- one more age; at 15 it stays, since the rank is then the highest
 abbrev pub older : Row → Row
-older r = record { request = r.request; age = min 15 (r.age + 1) }
+older r = record r { age = min 15 (r.age + 1) }
 
 -- the smaller of 15 and QoS + age
 abbrev pub rank : Row → ℕ
@@ -54,7 +54,7 @@ is_last o = o.taken + 1 == o.request.burst.count
 
 -- the open request after its next beat; the last one closes it
 abbrev pub moved : Open → Option Open
-moved o = cond (is_last o) None (Some (record { request = o.request; taken = o.taken + 1 }))
+moved o = if is_last o then None else Some (record o { taken = o.taken + 1 })
 
 -- an open request has a beat left
 abbrev pub beat_left : Option Open → Bool

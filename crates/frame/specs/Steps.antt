@@ -41,9 +41,9 @@ read_steps r = One (Grant Read) ∷ Takes r.beats ∷ []
 abbrev pub refused_steps : List Step
 refused_steps = One Take ∷ One (Grant Read) ∷ One (row_request Write 4 0 0 0 1) ∷ One (row_request Write 0 0 0 0xff8 2) ∷ []
 
--- the bursts that master 2 reads alone
-abbrev pub others : List Row
-others = row_at 2 ∷ row_at 3 ∷ row_at 4 ∷ row_at 5 ∷ []
+-- master 2 reads bursts alone: it requests them all, then each is granted and read
+abbrev pub alone_steps : List Row → List Step
+alone_steps rows = map (read_request 2 1 1) rows ++ flat_map read_steps rows
 
 -- all steps: master 1 waits with the lowest rank, master 0 brings the frame, and two masters read it back
 abbrev pub frame_steps : List Step
@@ -52,5 +52,5 @@ frame_steps =
     ++ flat_map write_steps (row_at 0 ∷ row_at 1 ∷ row_at 2 ∷ row_at 3 ∷ [])
     ++ overtaken_steps (row_at 4) ++ write_steps (row_at 5)
     ++ two_reads (row_at 0) (row_at 1)
-    ++ map (read_request 2 1 1) others ++ flat_map read_steps others
+    ++ alone_steps (row_at 2 ∷ row_at 3 ∷ row_at 4 ∷ row_at 5 ∷ [])
     ++ refused_steps

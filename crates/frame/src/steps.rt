@@ -1,9 +1,9 @@
 // The steps of the program, and the acts that they come to.
-ghost use Rattle.std.specs.Prelude.{◌≡◌, ◌++◌, [], ◌∷◌, map, length, vec_len, IfOk, OnOk};
+ghost use Rattle.std.specs.Prelude.{◌≡◌, ◌++◌, length, vec_len, IfOk, OnOk};
 ghost use Rattle.std.specs.List.{flat_map};
 ghost use Rattle.workload.specs.Steps.{all_acts};
 ghost use Rattle.frame.specs.Rows.{WrittenOnce};
-ghost use Rattle.frame.specs.Steps.{write_steps, read_request, read_steps, overtaken_steps, two_reads, refused_steps, frame_steps};
+ghost use Rattle.frame.specs.Steps.{write_steps, overtaken_steps, two_reads, alone_steps, refused_steps, frame_steps};
 ghost use Rattle.frame.specs.declared.rows.TheConstants.{FRAME_BYTES};
 
 use crate::rows::{BEATS, ROWS, Row};
@@ -90,7 +90,7 @@ fn add_written(steps: &mut Vec<Step>, rows: &[Row]) -> Result<(), AllocError>
 
 // Adds the steps by which master 2 reads these bursts: all requests, then each burst.
 fn add_read(steps: &mut Vec<Step>, rows: &[Row]) -> Result<(), AllocError>
-    ensures { OnOk result (steps.new.items ≡ steps.old.items ++ (map (read_request 2 1 1) rows.now ++ flat_map read_steps rows.now)) }
+    ensures { OnOk result (steps.new.items ≡ steps.old.items ++ alone_steps rows.now) }
 {
     'requests: for row in rows {
         steps.push(row.read_request(2, 1, 1))?;

@@ -1,5 +1,5 @@
 -- A put of the fabric in a run.
-use Rattle.std.proofs.Common.{◌≡◌, ℕ, ◌+◌, Bool, true, false, cond, eqb, ltb, ◌∷◌, Some, None, Ok, Err, Option, Result, refl, ap, ◌∙◌, ⊎_elim}
+use Rattle.std.proofs.Common.{◌≡◌, ℕ, ◌+◌, Bool, true, false, cond, not, eqb, ltb, ◌∷◌, Some, None, Ok, Err, Option, Result, refl, ap, ◌∙◌, ⊎_elim}
 use mathlib.Core.Bool.{beq}
 use Rattle.burst.specs.declared.raw.RawBurst.{RawBurst}
 use Rattle.burst.specs.Beats.{address_of, last_of, cover_of}
@@ -65,7 +65,7 @@ module _ (m : Board) (h : History) (master word strobe : ℕ) (mark : Bool) wher
     stands_there : s.write ≡ busy b k
     stands_there = ap stand_of open_is
 
-    test_is : put_test q.current s master mark ≡ cond (eqb g.from.request.master master) (cond (beq mark (is_last g)) (Ok (open_as g)) (Err LastMark)) (Err OtherMaster)
+    test_is : put_test q.current s master mark ≡ cond (not (eqb g.from.request.master master)) (Err OtherMaster) (cond (beq mark (is_last g)) (Ok (open_as g)) (Err LastMark))
     unfolding queue_after
     test_is = rw (open_is, is_at_self b k)
 

@@ -1,5 +1,5 @@
 -- A worked history: a write of two bytes, and a read of the word around them.
-use Rattle.std.specs.Prelude.{◌≡◌, ℕ, true, cond, List, [], ◌∷◌, Ok, Err, Result, nat_lt, slice_index}
+use Rattle.std.specs.Prelude.{◌≡◌, ℕ, true, if◌then◌else◌, List, [], ◌∷◌, Ok, Err, Result, nat_lt, slice_index}
 use Rattle.burst.specs.declared.raw.RawBurst.{RawBurst}
 use Rattle.slave.specs.declared.answer.Response.TheVariants.{Okay}
 use Rattle.slave.specs.declared.answer.Channel.TheVariants.{Write, Read}
@@ -15,7 +15,7 @@ use Rattle.history.specs.Runs.{answers_of}
 
 -- 8,192 plain bytes that begin with 11 22 33 44 (hexadecimal)
 abbrev pub example_board : Board
-example_board = record { bytes = λ a. slice_index (0x11 ∷ 0x22 ∷ 0x33 ∷ 0x44 ∷ []) a; kinds = λ a. cond (nat_lt a 8192) plain unmapped }
+example_board = record { bytes = λ a. slice_index (0x11 ∷ 0x22 ∷ 0x33 ∷ 0x44 ∷ []) a; kinds = λ a. if nat_lt a 8192 then plain else unmapped }
 
 -- one beat of four bytes at address 0
 abbrev pub word_burst : RawBurst

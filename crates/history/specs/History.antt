@@ -1,5 +1,5 @@
 -- Histories of acts with their answers: which requests wait, which one a grant picks, and which beat comes next.
-use Rattle.std.specs.Prelude.{◌≡◌, ℕ, ◌+◌, ◌<◌, ◌≤◌, min, Bool, true, false, cond, not, ◌&&◌, ◌||◌, ◌⊎◌, List, [], ◌∷◌, ◌++◌, Some, None, Ok, Err, filter, Option, Result, ◌==◌, ◌≢◌, nat_lt}
+use Rattle.std.specs.Prelude.{◌≡◌, ℕ, ◌+◌, ◌<◌, ◌≤◌, min, Bool, true, false, if◌then◌else◌, not, ◌&&◌, ◌||◌, ◌⊎◌, List, [], ◌∷◌, ◌++◌, Some, None, Ok, Err, filter, Option, Result, ◌==◌, ◌≢◌, nat_lt}
 use mathlib.Core.List.{Memᴰ}
 use Rattle.burst.specs.declared.raw.RawBurst.{RawBurst}
 use Rattle.slave.specs.declared.answer.Channel.{Channel}
@@ -37,7 +37,7 @@ accepted (Err e) = false
 -- how many acts were accepted; an accepted act's number is how many were accepted before it
 unfoldable pub tally : History → ℕ
 tally [] = 0
-tally (x ∷ before) = cond (accepted x.answer) 1 0 + tally before
+tally (x ∷ before) = (if accepted x.answer then 1 else 0) + tally before
 
 -- a history without its refused acts
 unfoldable pub accepted_acts : History → History
@@ -52,14 +52,14 @@ same Read Read = true
 
 -- what an act requests of a channel
 abbrev pub asks : Channel → Act → Option Request
-asks ch (Ask c q) = cond (same ch c) (Some q) None
+asks ch (Ask c q) = if same ch c then Some q else None
 asks ch (Grant c) = None
 asks ch (Put m w s l) = None
 asks ch Take = None
 
 -- the request that an event has accepted in a channel
 abbrev pub asked : Channel → Event → Option Request
-asked ch x = cond (accepted x.answer) (asks ch x.act) None
+asked ch x = if accepted x.answer then asks ch x.act else None
 
 -- the act is a grant of the channel
 abbrev pub grants : Channel → Act → Bool
@@ -101,7 +101,7 @@ requests ch (x ∷ before) = requests ch before ++ filed (tally before) (asked c
 -- the age of a request with the number t: its channel's grants that were accepted since
 unfoldable pub age : Channel → ℕ → History → ℕ
 age ch t [] = 0
-age ch t (x ∷ before) = cond (granting ch x && nat_lt t (tally before)) 1 0 + age ch t before
+age ch t (x ∷ before) = (if granting ch x && nat_lt t (tally before) then 1 else 0) + age ch t before
 
 -- two requests are of one master and ID
 abbrev pub same_source : Filed → Filed → Bool
@@ -123,7 +123,7 @@ rank ch h q = min 15 (q.request.qos + age ch q.at h)
 -- p, unless a later one is higher
 abbrev pub better : (Filed → ℕ) → Filed → Option Filed → Filed
 better r p None = p
-better r p (Some q) = cond (nat_lt (r p) (r q)) q p
+better r p (Some q) = if nat_lt (r p) (r q) then q else p
 
 -- the highest of a list, among equals the first
 unfoldable pub best : (Filed → ℕ) → List Filed → Option Filed
@@ -153,7 +153,7 @@ unfoldable pub picked : Channel → History → List Filed
 picked ch [] = []
 picked ch (x ∷ before) =
     let ps = picked ch before in
-    cond (granting ch x) (with_one (pick ch before (unpicked ps (requests ch before))) ps) ps
+    if granting ch x then with_one (pick ch before (unpicked ps (requests ch before))) ps else ps
 
 -- waiting are the accepted requests that no accepted grant has picked yet
 unfoldable pub waiting : Channel → History → List Filed
@@ -186,14 +186,14 @@ started (Some q) = Some (record { from = q; beats = 0 })
 -- one beat more
 abbrev pub one_more : Option Going → Option Going
 one_more None = None
-one_more (Some g) = Some (record { from = g.from; beats = g.beats + 1 })
+one_more (Some g) = Some (record g { beats = g.beats + 1 })
 
 -- what goes on in a channel since its last accepted grant: put or take number j has beat j of the own request's burst
 unfoldable pub current : Channel → History → Option Going
 current ch [] = None
 current ch (x ∷ before) =
-    cond (granting ch x) (started (own ch before))
-    (cond (moving ch x) (one_more (current ch before)) (current ch before))
+    if granting ch x then started (own ch before)
+    else if moving ch x then one_more (current ch before) else current ch before
 
 -- its burst
 abbrev pub burst_of : Going → RawBurst
@@ -202,7 +202,7 @@ burst_of g = g.from.request.burst
 -- unless all of its beats were moved
 abbrev pub unfinished : Option Going → Option Going
 unfinished None = None
-unfinished (Some g) = cond (nat_lt g.beats (burst_of g).count) (Some g) None
+unfinished (Some g) = if nat_lt g.beats (burst_of g).count then Some g else None
 
 -- the open request of a channel
 unfoldable pub opened : Channel → History → Option Going

@@ -1,5 +1,5 @@
 -- Whole runs: a list of acts, the answers that are owed to them, and what a call that performs them answers and leaves.
-use Rattle.std.specs.Prelude.{◌≡◌, ℕ, cond, List, [], ◌∷◌, ◌++◌, length, take, drop, Ok, Err, Result, nat_lt}
+use Rattle.std.specs.Prelude.{◌≡◌, ℕ, if◌then◌else◌, List, [], ◌∷◌, ◌++◌, length, take, drop, Ok, Err, Result, nat_lt}
 use Rattle.slave.specs.Meaning.{Meaning, Board}
 use Rattle.fabric.specs.declared.types.Act.{Act}
 use Rattle.fabric.specs.declared.types.Answer.{Answer}
@@ -39,11 +39,11 @@ run_number Short = 22
 
 -- a run begins over a live, idle and full slave of width 8
 abbrev pub begin_answer : Meaning → Result (Unit {0}) RunFault
-begin_answer s = cond (fits_below s) (Ok tt) (Err Below)
+begin_answer s = if fits_below s then Ok tt else Err Below
 
 -- and where there is room for so many answers
 abbrev pub run_answer : ℕ → ℕ → Meaning → Result (Unit {0}) RunFault
-run_answer acts room s = cond (nat_lt room acts) (Err Short) (begin_answer s)
+run_answer acts room s = if nat_lt room acts then Err Short else begin_answer s
 
 -- what a call leaves that performs acts over a slave with the bytes and kinds m at the creation:
 -- the answers held before and after, the fabric and the slave

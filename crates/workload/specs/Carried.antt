@@ -1,5 +1,5 @@
 -- The bytes of a frame in the lanes of a bus of eight bytes.
-use Rattle.std.specs.Prelude.{ℕ, ◌+◌, ◌-◌, Bool, cond, ◌&&◌, List, length, nat_le, nat_lt, slice_index}
+use Rattle.std.specs.Prelude.{ℕ, ◌+◌, ◌-◌, Bool, if◌then◌else◌, ◌&&◌, List, length, nat_le, nat_lt, slice_index}
 use Rattle.burst.specs.Beats.{mask_below}
 use Rattle.slave.specs.Lanes.{word_of}
 
@@ -9,7 +9,7 @@ in_frame frame s a = nat_le s a && nat_lt (a - s) (length frame)
 
 -- the frame's byte at the address a, 0 outside the frame
 abbrev pub frame_byte : List ℕ → ℕ → ℕ → ℕ
-frame_byte frame s a = cond (in_frame frame s a) (slice_index frame (a - s)) 0
+frame_byte frame s a = if in_frame frame s a then slice_index frame (a - s) else 0
 
 -- the word that carries the frame's bytes of the eight addresses from a on
 abbrev pub frame_word : List ℕ → ℕ → ℕ → ℕ
