@@ -1,4 +1,5 @@
--- What each call of a splitter does to the slave below.
+-- What each call of a splitter does to the slave below. A call that is refused here is refused below or never made there, and
+-- the slave below stands where the place implies: nothing is opened, and it is as it was.
 use Rattle.std.specs.Prelude.{ℕ, if◌then◌else◌, Some, None, Option}
 use Rattle.burst.specs.declared.raw.RawBurst.{RawBurst}
 use Rattle.slave.specs.declared.answer.Channel.{Channel}

@@ -1,7 +1,7 @@
 -- What holds of the runs of every lawful burst, and one split worked out.
 use Rattle.std.specs.Prelude.{◌≡◌, ℕ, ◌<◌, ◌≤◌, true, [], ◌∷◌, Ok}
 use Rattle.burst.specs.declared.raw.RawBurst.{RawBurst}
-use Rattle.burst.specs.Beats.{IsLawful, cover_of}
+use Rattle.burst.specs.Beats.{IsLawful, cover_of, incr_burst}
 use Rattle.burst.specs.Edges.{burst}
 use Rattle.slave.specs.declared.answer.Channel.{Channel}
 use Rattle.slave.specs.Meaning.{Meaning, idle, stand_at}
@@ -31,4 +31,4 @@ pub record RunsStand (M : ℕ) (b : RawBurst) : Type 0 where
 
 -- a WRAP burst of eight beats of 4 bytes from 0Ch, in runs of four: up to its turn 0Ch with 4 and 1Ch with 1, then 0 with 3
 abbrev pub WorkedSplit : Type 0
-WorkedSplit = runs 4 (burst 2 0x0c 2 8) ≡ (burst 1 0x0c 2 4 ∷ burst 1 0x1c 2 1 ∷ burst 1 0 2 3 ∷ [])
+WorkedSplit = runs 4 (burst 2 0x0c 2 8) ≡ (incr_burst 0x0c 2 4 ∷ incr_burst 0x1c 2 1 ∷ incr_burst 0 2 3 ∷ [])
