@@ -1,7 +1,7 @@
 -- The pile over memory of 8,192 bytes fits below a fabric, and keeps the length of its memory.
 use Rattle.std.proofs.Common.{◌≡◌, ℕ, ◌≤◌, true, false, cond, eqb, ltb, List, length, Some, None, Option, vec_items, vec_len, refl, sym, ap, ◌∙◌, arith, le-ltb}
 use Rattle.std.proofs.lemmas.Bool.{cond-true, ltb-false}
-use Rattle.slave.specs.declared.answer.Response.TheVariants.{Okay}
+use Rattle.slave.specs.declared.response.Response.TheVariants.{Okay}
 use Rattle.slave.specs.Meaning.{Meaning, board, ByteKind, plain, unmapped, idle, dead, is_there}
 use Rattle.ram.specs.Making.{make_refusal}
 use Rattle.ram.specs.Memory.{kind_at, memory_board}

@@ -4,8 +4,8 @@ use lib.Pow.{pow-lt}
 use Rattle.std.proofs.lemmas.Nat.{mul-le, shr_below, pow-add, div-add-mod', mod_below, pow_pos, div_below}
 use Rattle.std.proofs.lemmas.Bool.{cases_lt}
 use Rattle.std.proofs.lemmas.Bool.Decides.{nat_tests}
-use Rattle.burst.specs.declared.raw.Width.{Width}
-use Rattle.burst.specs.declared.raw.Width.TheVariants.{One, Two, Four, Eight}
+use Rattle.burst.specs.declared.width.Width.{Width}
+use Rattle.burst.specs.declared.width.Width.TheVariants.{One, Two, Four, Eight}
 use Rattle.burst.specs.declared.raw.RawBurst.{RawBurst}
 use Rattle.burst.specs.Beats.{IsLawful, address_of, last_of, last_from}
 use Rattle.burst.specs.Rules.{width_bytes, refusal, wrap_count, KeepsPage}

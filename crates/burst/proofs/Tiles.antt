@@ -5,7 +5,7 @@ use Rattle.std.proofs.lemmas.Bool.{eq-eqb, ne_eqb, cond-true, cond-false, cases_
 use Rattle.std.proofs.lemmas.Bool.Decides.{nat_tests}
 use Rattle.burst.specs.Rules.{KeepsPage}
 use Rattle.burst.specs.declared.raw.RawBurst.{RawBurst}
-use Rattle.burst.specs.declared.raw.Cover.{Cover}
+use Rattle.burst.specs.declared.cover.Cover.{Cover}
 use Rattle.burst.specs.Beats.{container_of, IsLawful, address_of, last_of, incr_address, wrap_address, container, turn_of, covers, span_of}
 use Rattle.burst.specs.Laws.{covered, Once, BeatsLie}
 use Rattle.burst.proofs.Facts.{more, Facts, facts, round_power}

@@ -2,8 +2,8 @@
 use Rattle.std.specs.Prelude.{◌≡◌, ℕ, zero, suc, ◌+◌, ◌-◌, ◌*◌, ◌/◌, ◌%◌, ◌^◌, Bool, false, if◌then◌else◌, ◌&&◌, ◌||◌, Some, None, Ok, Err, Option, Result, ◌==◌, nat_le, nat_lt}
 use Rattle.burst.specs.declared.raw.BurstFault.{BurstFault}
 use Rattle.burst.specs.declared.raw.RawBurst.{RawBurst}
-use Rattle.burst.specs.declared.raw.Cover.{Cover}
-use Rattle.burst.specs.declared.checked.Burst.{Burst}
+use Rattle.burst.specs.declared.cover.Cover.{Cover}
+use Rattle.burst.specs.declared.burst.Burst.{Burst}
 use Rattle.burst.specs.Rules.{kind_code, fault_number, refusal}
 
 -- a checked burst as it was asked for

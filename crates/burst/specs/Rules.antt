@@ -2,8 +2,8 @@
 use Rattle.std.specs.Prelude.{ℕ, ◌+◌, ◌*◌, ◌%◌, ◌^◌, ◌≤◌, Bool, if◌then◌else◌, not, ◌&&◌, ◌||◌, ◌==◌, nat_lt}
 use Rattle.burst.specs.declared.raw.BurstKind.{BurstKind}
 use Rattle.burst.specs.declared.raw.BurstKind.TheVariants.{Fixed, Incr, Wrap}
-use Rattle.burst.specs.declared.raw.Width.{Width}
-use Rattle.burst.specs.declared.raw.Width.TheVariants.{One, Two, Four, Eight}
+use Rattle.burst.specs.declared.width.Width.{Width}
+use Rattle.burst.specs.declared.width.Width.TheVariants.{One, Two, Four, Eight}
 use Rattle.burst.specs.declared.raw.BurstFault.{BurstFault}
 use Rattle.burst.specs.declared.raw.BurstFault.TheVariants.{Kind, Size, Count, Start, Page}
 

@@ -1,11 +1,6 @@
-// The lanes that a beat uses on a bus.
-ghost use Rattle.std.specs.Prelude.{◌≡◌, ℕ, ◌^◌, ◌<◌, ◌≤◌, Bool, IfSome, if◌then◌else◌};
-ghost use Rattle.burst.specs.Rules.{width_bytes};
-ghost use Rattle.burst.specs.Beats.{raw_of, address_of, last_of, lane_mask, lane_used, lanes_answer, any_below, mask_below, bit};
-ghost use Rattle.burst.specs.Laws.{LaneBits};
-
-use crate::checked::Burst;
-use crate::raw::{Cover, Width};
+// Lanes of masks and strobes.
+ghost use Rattle.std.specs.Prelude.{◌≡◌, ℕ, ◌^◌, ◌<◌, ◌≤◌, Bool, if◌then◌else◌};
+ghost use Rattle.burst.specs.Beats.{any_below, mask_below, bit};
 
 // The lanes of the widest bus.
 pub const LANES: u8 = 8;
@@ -48,37 +43,4 @@ pub fn any_lane<F: Fn(u8) -> bool>(test: F) -> bool
     ensures { (p : ℕ → Bool) → ((i : ℕ) (b : Bool) → i < 8 → F.post test i b → b ≡ p i) → result ≡ any_below p 8 }
 {
     (0..LANES).any(|i| test(i))
-}
-
-impl Cover {
-    // Whether one of the bytes, which are eight at most, travels in this lane of a bus.
-    fn uses(self, width: Width, lane: u8) -> bool
-        ensures { result ≡ lane_used (width_bytes width) self.first self.last lane }
-    {
-        let first = u64::from(self.first);
-        let last = u64::from(self.last);
-        let bus = u64::from(width.bytes());
-        any_lane(|k| {
-            let address = first + u64::from(k);
-            address <= last && address % bus == u64::from(lane)
-        })
-    }
-
-    // The lanes that the bytes use on a bus, a bit for each.
-    fn lanes(self, width: Width) -> u8
-        ensures { result ≡ lane_mask (width_bytes width) self.first self.last }
-    {
-        mask_of(|i| self.uses(width, i))
-    }
-}
-
-impl Burst {
-    // The lanes that beat j uses on a bus of this width, a bit for each; none from the count on.
-    pub fn lanes(self, j: u16, width: Width) -> Option<u8>
-        ensures answer { result ≡ lanes_answer (width_bytes width) (raw_of self) j }
-        ensures bits { IfSome result (LaneBits (width_bytes width) (address_of (raw_of self) j) (last_of (raw_of self) j)) }
-    {
-        let cover = self.cover(j)?;
-        Some(cover.lanes(width))
-    }
 }

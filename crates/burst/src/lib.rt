@@ -1,19 +1,21 @@
 // Bursts: what a master asks for, which of them are lawful, and which bytes their beats cover.
 #![tactic(auto)]
 
-mod beats;
-mod checked;
-mod edges;
+mod burst;
+mod cover;
 mod lanes;
+mod laws;
 mod raw;
 mod rules;
-mod span;
+mod width;
 
-pub use checked::Burst;
-pub use edges::edges_stand;
+pub use burst::Burst;
+pub use cover::Cover;
 pub use lanes::{LANES, any_lane, mask_of, strobed};
-pub use raw::{BurstFault, BurstKind, Cover, RawBurst, Width};
+pub use laws::edges_stand;
+pub use raw::{BurstFault, BurstKind, RawBurst};
 pub use rules::{MOST_BEATS, PAGE, check};
+pub use width::Width;
 
 #[cfg(test)]
 mod tests {

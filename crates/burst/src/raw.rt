@@ -1,7 +1,6 @@
-// A burst as a master asks for it, its kinds and faults, the bytes that a beat covers, and the widths of a bus.
-ghost use Rattle.burst.specs.Rules.{width_bytes, kind_code, fault_number};
-ghost use Rattle.std.specs.Prelude.{◌≡◌, ◌*◌, ◌/◌, ◌<◌, ◌≤◌};
-ghost use Rattle.burst.specs.Beats.{covers};
+// A burst as a master asks for it, its kinds, and the rules that it may break.
+ghost use Rattle.burst.specs.Rules.{kind_code, fault_number};
+ghost use Rattle.std.specs.Prelude.{◌≡◌};
 
 // A burst as it is asked for: nothing is known of it. The kind is 0 FIXED, 1 INCR or 2 WRAP,
 // a beat has 2 to the power of the size code bytes. The kind is a number, since a master may ask for one that there is not.
@@ -58,49 +57,5 @@ impl BurstFault {
         ensures { result ≡ fault_number self }
     {
         self as u8
-    }
-}
-
-// The bytes from the first to the last that a beat, or a whole burst, covers.
-#[derive(Clone, Copy, PartialEq, Eq, Debug)]
-pub struct Cover {
-    pub first: u32,
-    pub last: u32,
-}
-
-impl Cover {
-    // Whether an address lies between the first and the last byte.
-    pub fn contains(self, address: u64) -> bool
-        ensures { result ≡ covers self.first self.last address }
-    {
-        u64::from(self.first) <= address && address <= u64::from(self.last)
-    }
-}
-
-// How many bytes a bus carries at once.
-#[derive(Clone, Copy, PartialEq, Eq, Debug)]
-pub enum Width {
-    One = 1,
-    Two = 2,
-    Four = 4,
-    Eight = 8,
-}
-
-impl Width {
-    // The bytes that the bus carries at once.
-    pub fn bytes(self) -> u32
-        ensures value { result ≡ width_bytes self }
-        ensures bound { result ≤ 8 }
-        ensures nonzero { 0 < result }
-    {
-        self as u32
-    }
-
-    // The address of the word of the bus that an address lies in.
-    pub fn word_start(self, address: u32) -> u32
-        ensures value { result ≡ address / width_bytes self * width_bytes self }
-        ensures low { result ≤ address }
-    {
-        address / self.bytes() * self.bytes()
     }
 }

@@ -3,8 +3,9 @@ ghost use Rattle.std.specs.Prelude.{◌≡◌, ℕ, ◌+◌, ◌*◌, ◌^◌, �
 ghost use Rattle.burst.specs.Rules.{width_bytes, kind_code};
 ghost use Rattle.burst.specs.Beats.{raw_of, first_refusal, answered};
 
-use crate::checked::Burst;
-use crate::raw::{BurstFault, BurstKind, RawBurst, Width};
+use crate::burst::Burst;
+use crate::raw::{BurstFault, BurstKind, RawBurst};
+use crate::width::Width;
 
 // No burst leaves the page of this many bytes that it starts in.
 pub const PAGE: u32 = 4096;

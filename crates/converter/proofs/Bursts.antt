@@ -4,10 +4,10 @@ use Rattle.std.proofs.Common.{arith, mul_assoc, add-mul, sym, ◌∙◌, ap, sub
 use Rattle.std.proofs.Math.Arith.{mod-mul}
 use Rattle.std.proofs.lemmas.Bool.{cond_both}
 use Rattle.std.proofs.lemmas.Nat.{pow_pos, mul-le}
-use Rattle.burst.specs.declared.raw.Width.{Width}
+use Rattle.burst.specs.declared.width.Width.{Width}
 use Rattle.burst.specs.declared.raw.BurstKind.{BurstKind}
 use Rattle.burst.specs.declared.raw.BurstKind.TheVariants.{Fixed, Incr, Wrap}
-use Rattle.burst.specs.declared.checked.Burst.{Burst}
+use Rattle.burst.specs.declared.burst.Burst.{Burst}
 use Rattle.burst.specs.Rules.{width_bytes, kind_code, refusal, KeepsPage}
 use Rattle.burst.specs.Beats.{address_of, last_of, wrap_address, raw_of, IsLawful}
 use Rattle.burst.proofs.Facts.{facts, size_fits, width_power}

@@ -3,10 +3,10 @@ use Rattle.std.specs.Prelude.{◌≡◌, ℕ, ◌+◌, ◌-◌, ◌*◌, ◌/◌
 use Rattle.std.proofs.Common.{arith, ltb, sym, subst, pow_mono}
 use Rattle.std.proofs.lemmas.Bool.{ltb-true}
 use Rattle.std.proofs.lemmas.Bool.Decides.{nat_tests}
-use Rattle.burst.specs.declared.raw.Cover.{Cover}
+use Rattle.burst.specs.declared.cover.Cover.{Cover}
 use Rattle.std.proofs.lemmas.Nat.{div-add-mod', mod_below, pow_pos}
-use Rattle.burst.specs.declared.raw.Width.{Width}
-use Rattle.burst.specs.declared.raw.Width.TheVariants.{One, Two, Four, Eight}
+use Rattle.burst.specs.declared.width.Width.{Width}
+use Rattle.burst.specs.declared.width.Width.TheVariants.{One, Two, Four, Eight}
 use Rattle.burst.specs.Rules.{width_bytes, KeepsPage}
 use Rattle.burst.specs.Beats.{last_from, incr_burst, IsLawful}
 use Rattle.burst.proofs.Facts.{InWord, block_in_block, width_some, width_power, code_le, base_le}

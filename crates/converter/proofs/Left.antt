@@ -1,7 +1,7 @@
 -- The pieces of what is left of a beat, one after the other.
 use Rattle.std.proofs.Common.{◌≡◌, ℕ, zero, suc, ◌+◌, ◌-◌, ◌^◌, ◌<◌, ◌≤◌, min, Bool, true, false, cond, ltb, List, [], ◌∷◌, Some, None, sym, refl, ap, ◌∙◌, arith}
 use Rattle.std.proofs.lemmas.Bool.{cond_both, ltb-true, ltb-false}
-use Rattle.burst.specs.declared.raw.Width.{Width}
+use Rattle.burst.specs.declared.width.Width.{Width}
 use Rattle.burst.specs.Rules.{width_bytes}
 use Rattle.burst.proofs.Facts.{width_some}
 use Rattle.converter.specs.Fits.{Cuttable}

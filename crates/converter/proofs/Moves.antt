@@ -8,7 +8,7 @@ use Rattle.std.proofs.lemmas.Nat.{mod_below}
 use Rattle.burst.specs.Beats.{bit, lane_mask, covers}
 use Rattle.burst.proofs.Facts.{InWord}
 use Rattle.burst.proofs.Masks.{bit_mask, lane_of, mask_covers, no_lane}
-use Rattle.slave.specs.declared.answer.Response.TheVariants.{Okay}
+use Rattle.slave.specs.declared.response.Response.TheVariants.{Okay}
 use Rattle.slave.specs.Meaning.{Board}
 use Rattle.slave.specs.Lanes.{lane_byte, stray, write_response, is_plain, written, write_worst, shown, read_word, read_worst}
 use Rattle.slave.proofs.Words.{word_same, lane_word, kept_lane}

@@ -1,14 +1,14 @@
 -- One beat sent down or fetched from below.
 use Rattle.std.proofs.Common.{◌≡◌, ℕ, ◌^◌, true, false, Ok, Result, sym, refl, ap, ◌∙◌}
-use Rattle.burst.specs.declared.raw.Cover.{Cover}
+use Rattle.burst.specs.declared.cover.Cover.{Cover}
 use Rattle.burst.specs.Beats.{IsLawful, address_of, last_of, last_from, cover_of, incr_burst}
-use Rattle.slave.specs.declared.answer.Response.{Response}
-use Rattle.slave.specs.declared.answer.Response.TheVariants.{Okay}
-use Rattle.slave.specs.declared.answer.Given.{Given}
-use Rattle.slave.specs.declared.answer.Given.TheVariants.{Done}
-use Rattle.slave.specs.declared.answer.SlaveFault.{SlaveFault}
-use Rattle.slave.specs.declared.answer.Channel.{Channel}
-use Rattle.slave.specs.declared.answer.Channel.TheVariants.{Read, Write}
+use Rattle.slave.specs.declared.response.Response.{Response}
+use Rattle.slave.specs.declared.response.Response.TheVariants.{Okay}
+use Rattle.slave.specs.declared.given.Given.{Given}
+use Rattle.slave.specs.declared.given.Given.TheVariants.{Done}
+use Rattle.slave.specs.declared.fault.SlaveFault.{SlaveFault}
+use Rattle.slave.specs.declared.channels.Channel.{Channel}
+use Rattle.slave.specs.declared.channels.Channel.TheVariants.{Read, Write}
 use Rattle.slave.specs.Making.{ready}
 use Rattle.slave.specs.Meaning.{Meaning, board, idle, busy, Sound, with_read, with_write, stand_at}
 use Rattle.slave.specs.Lanes.{read_word, read_worst, write_worst, written, stray}

@@ -1,12 +1,12 @@
 -- The pieces of a beat cover its bytes once and in order, and none is refused below.
 use Rattle.std.proofs.Common.{◌≡◌, ℕ, ◌+◌, ◌≤◌, true, false, cond, List, [], ◌∷◌, sym, refl, ap, ◌∙◌, subst, arith}
 use Rattle.std.proofs.lemmas.Bool.Decides.{nat_tests}
-use Rattle.burst.specs.declared.raw.Width.{Width}
-use Rattle.burst.specs.declared.raw.Width.TheVariants.{Eight}
-use Rattle.burst.specs.declared.checked.Burst.{Burst}
+use Rattle.burst.specs.declared.width.Width.{Width}
+use Rattle.burst.specs.declared.width.Width.TheVariants.{Eight}
+use Rattle.burst.specs.declared.burst.Burst.{Burst}
 use Rattle.burst.specs.Rules.{width_bytes}
 use Rattle.burst.specs.Beats.{raw_of, address_of, last_of, covers, incr_burst}
-use Rattle.slave.specs.declared.answer.Channel.TheVariants.{Write, Read}
+use Rattle.slave.specs.declared.channels.Channel.TheVariants.{Write, Read}
 use Rattle.slave.specs.Making.{ready}
 use Rattle.slave.specs.Meaning.{Meaning, board, Sound}
 use Rattle.slave.specs.Acts.{open_after, give_answer, give_after, take_answer, take_after}

@@ -2,11 +2,11 @@
 use Rattle.std.proofs.Common.{◌≡◌, ℕ, ◌*◌, ◌/◌, true, false, Ok, Result, sym, ◌∙◌, ap, subst}
 use Rattle.burst.specs.Beats.{incr_burst, IsLawful}
 use Rattle.burst.proofs.Facts.{InWord}
-use Rattle.slave.specs.declared.answer.Response.{Response}
-use Rattle.slave.specs.declared.answer.Response.TheVariants.{Okay}
-use Rattle.slave.specs.declared.answer.Given.{Given}
-use Rattle.slave.specs.declared.answer.SlaveFault.{SlaveFault}
-use Rattle.slave.specs.declared.answer.Channel.TheVariants.{Read, Write}
+use Rattle.slave.specs.declared.response.Response.{Response}
+use Rattle.slave.specs.declared.response.Response.TheVariants.{Okay}
+use Rattle.slave.specs.declared.given.Given.{Given}
+use Rattle.slave.specs.declared.fault.SlaveFault.{SlaveFault}
+use Rattle.slave.specs.declared.channels.Channel.TheVariants.{Read, Write}
 use Rattle.slave.specs.Acts.{on_ok, given_response, open_after, give_answer, give_after, take_answer, take_after}
 use Rattle.slave.specs.Making.{ready}
 use Rattle.slave.specs.Meaning.{Meaning, board, Sound, idle, with_write}

@@ -3,8 +3,8 @@ use Rattle.std.specs.Prelude.{◌≡◌, ℕ, zero, suc, ◌+◌, ◌-◌, ◌<�
 use Rattle.std.proofs.Common.{arith, sym, ◌∙◌, ap, subst, ⊎_elim}
 use Rattle.std.proofs.lemmas.Bool.{cases_lt, cond_both, cond-true, and_parts, leb-true, ltb-true}
 use Rattle.std.proofs.lemmas.Bool.Decides.{nat_tests}
-use Rattle.slave.specs.declared.answer.Response.{Response}
-use Rattle.slave.specs.declared.answer.Response.TheVariants.{Okay, SlvErr, DecErr}
+use Rattle.slave.specs.declared.response.Response.{Response}
+use Rattle.slave.specs.declared.response.Response.TheVariants.{Okay, SlvErr, DecErr}
 use Rattle.slave.specs.Lanes.{rank, worse, worst_lane}
 use Rattle.burst.specs.Beats.{covers}
 use Rattle.converter.proofs.Spans.{spans, span_worst}

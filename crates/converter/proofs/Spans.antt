@@ -1,9 +1,9 @@
 -- What a part of a beat reads and writes, from one address up to, and not at, another.
 use Rattle.std.specs.Prelude.{ℕ, ◌+◌, ◌*◌, ◌/◌, ◌%◌, Bool, if◌then◌else◌, ◌&&◌, nat_le, nat_lt}
-use Rattle.burst.specs.declared.raw.Cover.{Cover}
+use Rattle.burst.specs.declared.cover.Cover.{Cover}
 use Rattle.burst.specs.Beats.{bit}
-use Rattle.slave.specs.declared.answer.Response.{Response}
-use Rattle.slave.specs.declared.answer.Response.TheVariants.{Okay}
+use Rattle.slave.specs.declared.response.Response.{Response}
+use Rattle.slave.specs.declared.response.Response.TheVariants.{Okay}
 use Rattle.slave.specs.Meaning.{Meaning, ByteKind, Board, board, idle, with_write}
 use Rattle.slave.specs.Lanes.{lane_byte, word_of, worst_lane, write_response, read_response, is_plain}
 

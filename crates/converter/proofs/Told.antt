@@ -1,23 +1,23 @@
 -- The converter's calls, over what the walks over the pieces have done.
 use Rattle.std.proofs.Common.{◌<◌, ◌≡◌, ℕ, ◌+◌, true, false, cond, ltb, Some, Ok, Err, Result, sym, refl, ◌∙◌, ap, subst, arith}
 use Rattle.std.proofs.lemmas.Bool.Decides.{nat_tests}
-use Rattle.burst.specs.declared.checked.Burst.{Burst}
-use Rattle.burst.specs.declared.raw.Cover.{Cover}
+use Rattle.burst.specs.declared.burst.Burst.{Burst}
+use Rattle.burst.specs.declared.cover.Cover.{Cover}
 use Rattle.burst.specs.declared.raw.RawBurst.{RawBurst}
-use Rattle.burst.specs.declared.raw.Width.{Width}
+use Rattle.burst.specs.declared.width.Width.{Width}
 use Rattle.burst.specs.Rules.{width_bytes}
 use Rattle.burst.specs.Beats.{raw_of, IsLawful, address_of, last_of, cover_of}
-use Rattle.slave.specs.declared.answer.Channel.{Channel}
-use Rattle.slave.specs.declared.answer.Channel.TheVariants.{Write, Read}
-use Rattle.slave.specs.declared.answer.Channels.{Channels}
-use Rattle.slave.specs.declared.answer.Given.{Given}
-use Rattle.slave.specs.declared.answer.Given.TheVariants.{More, Done}
-use Rattle.slave.specs.declared.answer.OpenBurst.{OpenBurst}
-use Rattle.slave.specs.declared.answer.Response.{Response}
-use Rattle.slave.specs.declared.answer.Response.TheVariants.{Okay}
-use Rattle.slave.specs.declared.answer.SlaveFault.{SlaveFault}
-use Rattle.slave.specs.declared.answer.SlaveFault.TheVariants.{Strobe}
-use Rattle.slave.specs.declared.answer.Step.TheVariants.{Open, Beat}
+use Rattle.slave.specs.declared.channels.Channel.{Channel}
+use Rattle.slave.specs.declared.channels.Channel.TheVariants.{Write, Read}
+use Rattle.slave.specs.declared.channels.Channels.{Channels}
+use Rattle.slave.specs.declared.given.Given.{Given}
+use Rattle.slave.specs.declared.given.Given.TheVariants.{More, Done}
+use Rattle.slave.specs.declared.open_burst.OpenBurst.{OpenBurst}
+use Rattle.slave.specs.declared.response.Response.{Response}
+use Rattle.slave.specs.declared.response.Response.TheVariants.{Okay}
+use Rattle.slave.specs.declared.fault.SlaveFault.{SlaveFault}
+use Rattle.slave.specs.declared.fault.SlaveFault.TheVariants.{Strobe}
+use Rattle.slave.specs.declared.channels.Step.TheVariants.{Open, Beat}
 use Rattle.slave.specs.Channels.{state_at, other}
 use Rattle.slave.specs.Meaning.{Meaning, board, Stand, idle, busy, told, sound_stand, with_write, with_read}
 use Rattle.slave.specs.Lanes.{stray, worse, read_word, read_worst, write_worst, written}

@@ -1,10 +1,10 @@
 -- A beat sent down or fetched piece by piece: what holds between two pieces.
 use Rattle.std.proofs.Common.{◌≡◌, ℕ, ◌+◌, ◌*◌, ◌/◌, ◌≤◌, min, true, false, List, [], ◌∷◌, sym, refl, ap, ◌∙◌, subst, arith}
-use Rattle.burst.specs.declared.raw.Width.{Width}
+use Rattle.burst.specs.declared.width.Width.{Width}
 use Rattle.burst.specs.Rules.{width_bytes}
 use Rattle.burst.proofs.Facts.{base_le}
-use Rattle.slave.specs.declared.answer.Response.{Response}
-use Rattle.slave.specs.declared.answer.Response.TheVariants.{Okay}
+use Rattle.slave.specs.declared.response.Response.{Response}
+use Rattle.slave.specs.declared.response.Response.TheVariants.{Okay}
 use Rattle.slave.specs.Making.{ready}
 use Rattle.slave.specs.Meaning.{Meaning, board, Sound, idle, is_idle, with_write}
 use Rattle.slave.specs.Lanes.{stray, worse, shown, read_word, read_worst, write_worst, written}

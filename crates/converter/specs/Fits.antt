@@ -1,10 +1,10 @@
 -- What holds of a converter and of a beat's pieces at all times.
 use Rattle.std.specs.Prelude.{◌≡◌, ℕ, ◌^◌, ◌≤◌, true}
-use Rattle.burst.specs.declared.raw.Width.{Width}
+use Rattle.burst.specs.declared.width.Width.{Width}
 use Rattle.burst.specs.Beats.{last_from}
 use Rattle.burst.specs.Rules.{width_bytes, KeepsPage}
-use Rattle.slave.specs.declared.answer.Channel.{Channel}
-use Rattle.slave.specs.declared.answer.Channels.{Channels}
+use Rattle.slave.specs.declared.channels.Channel.{Channel}
+use Rattle.slave.specs.declared.channels.Channels.{Channels}
 use Rattle.slave.specs.Channels.{state_at}
 use Rattle.slave.specs.Meaning.{told, sound_stand}
 use Rattle.converter.specs.Pieces.{piece_end}

@@ -1,12 +1,12 @@
 -- What holds of the pieces of every beat.
 use Rattle.std.specs.Prelude.{◌≡◌, ℕ, ◌^◌, min, true, if◌then◌else◌, List, [], ◌∷◌, Ok}
-use Rattle.burst.specs.declared.raw.Width.{Width}
-use Rattle.burst.specs.declared.checked.Burst.{Burst}
+use Rattle.burst.specs.declared.width.Width.{Width}
+use Rattle.burst.specs.declared.burst.Burst.{Burst}
 use Rattle.burst.specs.Rules.{width_bytes}
 use Rattle.burst.specs.Beats.{raw_of, address_of, last_of, last_from, covers, incr_burst}
-use Rattle.slave.specs.declared.answer.Channel.{Channel}
-use Rattle.slave.specs.declared.answer.Channel.TheVariants.{Write, Read}
-use Rattle.slave.specs.declared.answer.Given.TheVariants.{Done}
+use Rattle.slave.specs.declared.channels.Channel.{Channel}
+use Rattle.slave.specs.declared.channels.Channel.TheVariants.{Write, Read}
+use Rattle.slave.specs.declared.given.Given.TheVariants.{Done}
 use Rattle.slave.specs.Making.{ready}
 use Rattle.slave.specs.Meaning.{Meaning, board, Sound}
 use Rattle.slave.specs.Lanes.{write_worst, read_word, read_worst}

@@ -1,6 +1,6 @@
 -- Which slave a converter may be made over, and what is made.
 use Rattle.std.specs.Prelude.{ℕ, if◌then◌else◌, ◌==◌}
-use Rattle.slave.specs.declared.answer.Response.TheVariants.{Okay}
+use Rattle.slave.specs.declared.response.Response.TheVariants.{Okay}
 use Rattle.slave.specs.Making.{ready, is_width}
 use Rattle.slave.specs.Meaning.{Meaning, idle, dead}
 use Rattle.converter.specs.Shows.{shows}

@@ -1,6 +1,6 @@
 -- A beat cut at multiples of the width below.
 use Rattle.std.specs.Prelude.{◌≡◌, ℕ, zero, suc, ◌+◌, ◌-◌, ◌*◌, ◌/◌, ◌^◌, ◌≤◌, min, if◌then◌else◌, List, [], ◌∷◌, Option, Some, None, ◌==◌, nat_lt}
-use Rattle.burst.specs.declared.raw.Cover.{Cover}
+use Rattle.burst.specs.declared.cover.Cover.{Cover}
 use Rattle.burst.specs.Rules.{KeepsPage}
 use Rattle.burst.specs.Beats.{last_from, covers}
 

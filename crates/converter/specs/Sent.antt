@@ -1,11 +1,11 @@
 -- The calls that go down for a beat, piece by piece.
 use Rattle.std.specs.Prelude.{ℕ, ◌+◌, ◌*◌, ◌/◌, ◌%◌, min, if◌then◌else◌, ◌&&◌, List, [], ◌∷◌, Result}
-use Rattle.burst.specs.declared.raw.Cover.{Cover}
+use Rattle.burst.specs.declared.cover.Cover.{Cover}
 use Rattle.burst.specs.Beats.{bit, covers, mask_below, incr_burst, cover_of}
-use Rattle.slave.specs.declared.answer.Response.{Response}
-use Rattle.slave.specs.declared.answer.Response.TheVariants.{Okay}
-use Rattle.slave.specs.declared.answer.SlaveFault.{SlaveFault}
-use Rattle.slave.specs.declared.answer.Channel.TheVariants.{Write, Read}
+use Rattle.slave.specs.declared.response.Response.{Response}
+use Rattle.slave.specs.declared.response.Response.TheVariants.{Okay}
+use Rattle.slave.specs.declared.fault.SlaveFault.{SlaveFault}
+use Rattle.slave.specs.declared.channels.Channel.TheVariants.{Write, Read}
 use Rattle.slave.specs.Meaning.{Meaning}
 use Rattle.slave.specs.Lanes.{lane_byte, word_of, worse}
 use Rattle.slave.specs.Acts.{on_ok, beat_at, give_beat, open_after, give_after, take_answer, take_after}

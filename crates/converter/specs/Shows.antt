@@ -1,9 +1,9 @@
 -- What a converter shows, and the words by which others read it.
 use Rattle.std.specs.Prelude.{ℕ, true}
-use Rattle.burst.specs.declared.raw.Width.{Width}
+use Rattle.burst.specs.declared.width.Width.{Width}
 use Rattle.burst.specs.Rules.{width_bytes}
-use Rattle.slave.specs.declared.answer.Response.{Response}
-use Rattle.slave.specs.declared.answer.Channels.{Channels}
+use Rattle.slave.specs.declared.response.Response.{Response}
+use Rattle.slave.specs.declared.channels.Channels.{Channels}
 use Rattle.slave.specs.Channels.{worst_at}
 use Rattle.slave.specs.Meaning.{Meaning, Stand, told}
 use Rattle.converter.specs.declared.converter.Converter.{Converter}

@@ -2,7 +2,7 @@
 ghost use Rattle.std.specs.Prelude.{◌≡◌, true, false};
 ghost use Rattle.burst.specs.Rules.{width_bytes};
 ghost use Rattle.converter.specs.Sent.{moved_word, cut_strobe, got_of, sent_piece, sent_beat, fetched_piece, fetched_beat};
-ghost use Rattle.slave.specs.declared.answer.Response.TheVariants.{Okay};
+ghost use Rattle.slave.specs.declared.response.Response.TheVariants.{Okay};
 ghost use Rattle.slave.specs.Acts.{on_ok, given_response};
 ghost use Rattle.slave.specs.Lanes.{stray, read_word, read_worst, write_worst, written};
 ghost use Rattle.slave.specs.Making.{ready};

@@ -5,12 +5,12 @@ use Rattle.std.specs.List.{remove}
 use Rattle.burst.specs.declared.raw.RawBurst.{RawBurst}
 use Rattle.burst.specs.Rules.{fault_at}
 use Rattle.burst.specs.Beats.{first_refusal}
-use Rattle.slave.specs.declared.answer.Response.{Response}
-use Rattle.slave.specs.declared.answer.SlaveFault.{SlaveFault}
-use Rattle.slave.specs.declared.answer.Channel.{Channel}
-use Rattle.slave.specs.declared.answer.Channel.TheVariants.{Write, Read}
-use Rattle.slave.specs.declared.answer.Given.{Given}
-use Rattle.slave.specs.declared.answer.Given.TheVariants.{More as GivenMore, Done as GivenDone}
+use Rattle.slave.specs.declared.response.Response.{Response}
+use Rattle.slave.specs.declared.fault.SlaveFault.{SlaveFault}
+use Rattle.slave.specs.declared.channels.Channel.{Channel}
+use Rattle.slave.specs.declared.channels.Channel.TheVariants.{Write, Read}
+use Rattle.slave.specs.declared.given.Given.{Given}
+use Rattle.slave.specs.declared.given.Given.TheVariants.{More as GivenMore, Done as GivenDone}
 use Rattle.slave.specs.Meaning.{Meaning, stand_at, is_idle, is_at}
 use Rattle.slave.specs.Making.{ready}
 use Rattle.slave.specs.Acts.{open_answer, open_after, give_answer, give_after}

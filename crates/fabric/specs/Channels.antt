@@ -1,7 +1,7 @@
 -- What a fabric holds: for each channel the waiting requests and the open one.
 use Rattle.std.specs.Prelude.{List, [], None, Option}
-use Rattle.slave.specs.declared.answer.Channel.{Channel}
-use Rattle.slave.specs.declared.answer.Channel.TheVariants.{Write, Read}
+use Rattle.slave.specs.declared.channels.Channel.{Channel}
+use Rattle.slave.specs.declared.channels.Channel.TheVariants.{Write, Read}
 use Rattle.fabric.specs.declared.row.Row.{Row}
 use Rattle.fabric.specs.declared.row.Open.{Open}
 use Rattle.fabric.specs.declared.queue.ChannelQueue.{ChannelQueue}

@@ -6,7 +6,7 @@ ghost use Rattle.std.specs.Borrow.{sem};
 ghost use Rattle.fabric.specs.Lending.{LendsQueue, with_channel};
 ghost use Rattle.fabric.specs.Acts.{request_answer, request_after, grant_answer, grant_after, grant_slave, put_answer, put_after, put_slave, take_answer, take_after, take_slave, create_answer, fits_below};
 ghost use Rattle.fabric.specs.Picking.{ByRule};
-ghost use Rattle.slave.specs.declared.answer.Channel.TheVariants.{Write, Read};
+ghost use Rattle.slave.specs.declared.channels.Channel.TheVariants.{Write, Read};
 
 use crate::queue::ChannelQueue;
 use crate::types::{Answer, FabricFault, Outcome, Request};

@@ -5,8 +5,8 @@ use Rattle.std.proofs.ByRecursion.{All-append}
 use Rattle.std.proofs.lemmas.Bool.{ltb-true, cases_Bool}
 use Rattle.std.proofs.lemmas.Bool.Decides.{nat_tests}
 use Rattle.burst.specs.Beats.{first_refusal, IsLawful}
-use Rattle.slave.specs.declared.answer.Channel.{Channel}
-use Rattle.slave.specs.declared.answer.Channel.TheVariants.{Write, Read}
+use Rattle.slave.specs.declared.channels.Channel.{Channel}
+use Rattle.slave.specs.declared.channels.Channel.TheVariants.{Write, Read}
 use Rattle.fabric.specs.declared.types.Request.{Request}
 use Rattle.fabric.specs.declared.types.Answer.TheVariants.{Accepted, Granted}
 use Rattle.fabric.specs.declared.types.FabricFault.{FabricFault}

@@ -4,8 +4,8 @@ use Rattle.std.specs.List.{AllByRecursion as All, remove}
 use Rattle.std.proofs.lemmas.Bool.{lt-ltb}
 use Rattle.burst.specs.declared.raw.RawBurst.{RawBurst}
 use Rattle.burst.specs.Beats.{IsLawful}
-use Rattle.slave.specs.declared.answer.Channel.{Channel}
-use Rattle.slave.specs.declared.answer.Channel.TheVariants.{Write, Read}
+use Rattle.slave.specs.declared.channels.Channel.{Channel}
+use Rattle.slave.specs.declared.channels.Channel.TheVariants.{Write, Read}
 use Rattle.fabric.specs.declared.types.Act.TheVariants.{Grant}
 use Rattle.fabric.specs.declared.types.Answer.TheVariants.{Granted}
 use Rattle.fabric.specs.declared.types.FabricFault.{FabricFault}

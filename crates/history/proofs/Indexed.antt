@@ -3,7 +3,7 @@ use Rattle.std.proofs.Common.{⊎_elim, ◌≡◌, ℕ, zero, suc, ◌<◌, ◌�
 use mathlib.Core.List.{Memᴰ}
 use Rattle.std.specs.List.{AllByRecursion as All, remove}
 use Rattle.std.proofs.lemmas.Bool.{eq-eqb, ne_eqb, cases_lt, cases_order}
-use Rattle.slave.specs.declared.answer.Channel.{Channel}
+use Rattle.slave.specs.declared.channels.Channel.{Channel}
 use Rattle.std.proofs.lemmas.List.{get_or-map, length-map}
 use Rattle.fabric.specs.declared.row.Row.{Row}
 use Rattle.history.specs.Tracks.{row_of}

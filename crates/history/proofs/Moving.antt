@@ -1,7 +1,7 @@
 -- One more beat of an open request.
 use Rattle.std.proofs.Common.{◌≡◌, ℕ, ◌+◌, ◌<◌, true, false, cond, eqb, ltb, ◌⊎◌, ◌∷◌, Some, None, refl, inl, inr, ⊎_elim, arith}
 use Rattle.std.proofs.lemmas.Bool.{lt-ltb, le-ltb, eq-eqb, ne_eqb, cases_eq}
-use Rattle.slave.specs.declared.answer.Channel.{Channel}
+use Rattle.slave.specs.declared.channels.Channel.{Channel}
 use Rattle.slave.specs.Meaning.{idle, busy}
 use Rattle.fabric.specs.declared.row.Open.{Open}
 use Rattle.fabric.specs.Channels.{with_open}

@@ -3,18 +3,18 @@ use Rattle.std.proofs.Common.{◌≡◌, ℕ, ◌+◌, Bool, true, false, cond, 
 use mathlib.Core.Bool.{beq}
 use Rattle.burst.specs.declared.raw.RawBurst.{RawBurst}
 use Rattle.burst.specs.Beats.{address_of, last_of, cover_of}
-use Rattle.slave.specs.declared.answer.Channel.{Channel}
-use Rattle.slave.specs.declared.answer.Channel.TheVariants.{Write, Read}
+use Rattle.slave.specs.declared.channels.Channel.{Channel}
+use Rattle.slave.specs.declared.channels.Channel.TheVariants.{Write, Read}
 use Rattle.fabric.specs.declared.types.Act.{Act}
 use Rattle.fabric.specs.declared.types.Act.TheVariants.{Put}
 use Rattle.fabric.specs.declared.types.FabricFault.{FabricFault}
 use mathlib.Core.Path.{fun_ext}
-use Rattle.slave.specs.declared.answer.Response.TheVariants.{Okay}
+use Rattle.slave.specs.declared.response.Response.TheVariants.{Okay}
 use Rattle.slave.specs.Meaning.{Meaning, busy, Board, board}
 use Rattle.fabric.specs.Channels.{Queue, with_queue, with_open}
 use Rattle.history.specs.Tracks.{stand_of, worst_kept, queue_after, channels_after, slave_after}
-use Rattle.slave.specs.declared.answer.SlaveFault.TheVariants.{Strobe}
-use Rattle.slave.specs.declared.answer.Given.{Given}
+use Rattle.slave.specs.declared.fault.SlaveFault.TheVariants.{Strobe}
+use Rattle.slave.specs.declared.given.Given.{Given}
 use Rattle.slave.specs.Lanes.{stray, worse, written}
 use Rattle.slave.specs.Acts.{worst_after, gave_answer, gave_after, give_answer, give_after}
 use Rattle.slave.proofs.Calls.{give_stray, give_taken, is_at_self}
@@ -74,7 +74,7 @@ module _ (m : Board) (h : History) (master word strobe : ℕ) (mark : Bool) wher
     owed_is = rw open_is
 
     -- the slave's answer is passed on
-    carried_on : (z : Result Given Rattle.slave.specs.declared.answer.SlaveFault.SlaveFault) → put_test q.current s master mark ≡ Ok (open_as g) → give_answer s word strobe ≡ z
+    carried_on : (z : Result Given Rattle.slave.specs.declared.fault.SlaveFault.SlaveFault) → put_test q.current s master mark ≡ Ok (open_as g) → give_answer s word strobe ≡ z
         → (put_answer q s master word strobe mark ≡ passed (carried z) (λ x. Ok (put_given (open_as g) x)))
         × (put_after q s master word strobe mark ≡ where_passed (carried z) q (λ _. with_open (moved (open_as g)) q))
         × (put_slave q s master word strobe mark ≡ give_after s word strobe)

@@ -1,8 +1,8 @@
 -- Events that a channel does not notice.
 use Rattle.std.proofs.Common.{◌≡◌, ℕ, false, ◌∷◌, map, Some, None, Err, Option, Result, refl, ⊎_elim}
 use Rattle.std.proofs.lemmas.Bool.{and_cases, and_left, and_right}
-use Rattle.slave.specs.declared.answer.Channel.{Channel}
-use Rattle.slave.specs.declared.answer.Channel.TheVariants.{Write, Read}
+use Rattle.slave.specs.declared.channels.Channel.{Channel}
+use Rattle.slave.specs.declared.channels.Channel.TheVariants.{Write, Read}
 use Rattle.fabric.specs.declared.types.Act.{Act}
 use Rattle.fabric.specs.declared.types.Act.TheVariants.{Request as Ask, Grant, Put, Take}
 use Rattle.fabric.specs.declared.types.Answer.{Answer}

@@ -1,8 +1,8 @@
 -- A take of the fabric in a run.
 use Rattle.std.proofs.Common.{◌≡◌, ℕ, false, ◌∷◌, Some, None, Ok, Err, Option, refl, ap}
 use Rattle.burst.specs.declared.raw.RawBurst.{RawBurst}
-use Rattle.slave.specs.declared.answer.Channel.{Channel}
-use Rattle.slave.specs.declared.answer.Channel.TheVariants.{Write, Read}
+use Rattle.slave.specs.declared.channels.Channel.{Channel}
+use Rattle.slave.specs.declared.channels.Channel.TheVariants.{Write, Read}
 use Rattle.fabric.specs.declared.types.Act.TheVariants.{Take}
 use Rattle.fabric.specs.declared.types.FabricFault.{FabricFault}
 use Rattle.slave.specs.Meaning.{Meaning, busy, is_at, Board}

@@ -3,13 +3,13 @@ use Rattle.std.proofs.Common.{⊎_elim, ◌≡◌, ◌+◌, Bool, true, cond, no
 use mathlib.Core.Bool.{beq}
 use Rattle.std.proofs.lemmas.Bool.{or_right, both_ways, ltb-false, eq-eqb, ne_eqb, cases_Bool, not-true}
 use Rattle.burst.specs.Beats.{address_of, last_of}
-use Rattle.slave.specs.declared.answer.Channel.{Channel}
-use Rattle.slave.specs.declared.answer.Channel.TheVariants.{Write}
+use Rattle.slave.specs.declared.channels.Channel.{Channel}
+use Rattle.slave.specs.declared.channels.Channel.TheVariants.{Write}
 use Rattle.fabric.specs.declared.types.Act.{Act}
 use Rattle.fabric.specs.declared.types.Act.TheVariants.{Request as Ask, Grant, Put, Take}
 use Rattle.fabric.specs.declared.types.Answer.{Answer}
 use Rattle.fabric.specs.declared.types.Answer.TheVariants.{More, Done}
-use Rattle.slave.specs.declared.answer.SlaveFault.TheVariants.{Strobe}
+use Rattle.slave.specs.declared.fault.SlaveFault.TheVariants.{Strobe}
 use Rattle.slave.specs.Lanes.{stray, worse}
 use Rattle.slave.specs.Acts.{left}
 use Rattle.fabric.specs.declared.types.FabricFault.TheVariants.{LastMark, OtherMaster, Place, Slave}

@@ -3,9 +3,9 @@ use Rattle.std.specs.Prelude.{◌≡◌, ℕ, ◌%◌, ◌<◌, Bool, true, fals
 use Rattle.burst.specs.declared.raw.RawBurst.{RawBurst}
 use Rattle.burst.specs.Beats.{cover_of, bit}
 use Rattle.burst.specs.Laws.{covered}
-use Rattle.slave.specs.declared.answer.Response.{Response}
-use Rattle.slave.specs.declared.answer.Response.TheVariants.{Okay}
-use Rattle.slave.specs.declared.answer.Channel.TheVariants.{Write}
+use Rattle.slave.specs.declared.response.Response.{Response}
+use Rattle.slave.specs.declared.response.Response.TheVariants.{Okay}
+use Rattle.slave.specs.declared.channels.Channel.TheVariants.{Write}
 use Rattle.slave.specs.Meaning.{Board}
 use Rattle.slave.specs.Lanes.{lane_byte, worse, is_plain, read_word, read_worst, write_worst}
 use Rattle.slave.specs.Lanes.{shown as byte_shown}

@@ -1,8 +1,8 @@
 -- A worked history: a write of two bytes, and a read of the word around them.
 use Rattle.std.specs.Prelude.{◌≡◌, ℕ, true, if◌then◌else◌, List, [], ◌∷◌, Ok, Err, Result, nat_lt, slice_index}
 use Rattle.burst.specs.declared.raw.RawBurst.{RawBurst}
-use Rattle.slave.specs.declared.answer.Response.TheVariants.{Okay}
-use Rattle.slave.specs.declared.answer.Channel.TheVariants.{Write, Read}
+use Rattle.slave.specs.declared.response.Response.TheVariants.{Okay}
+use Rattle.slave.specs.declared.channels.Channel.TheVariants.{Write, Read}
 use Rattle.slave.specs.Meaning.{plain, unmapped, Board}
 use Rattle.fabric.specs.declared.types.Request.{Request}
 use Rattle.fabric.specs.declared.types.Act.{Act}

@@ -2,9 +2,9 @@
 use Rattle.std.specs.Prelude.{◌≡◌, ℕ, ◌+◌, ◌%◌, ◌^◌, ◌<◌, ◌≤◌, true, false, ◌⊎◌, ◌∷◌, Some, None, Ok, Err, Option, ◌≢◌}
 use mathlib.Core.List.{Memᴰ}
 use Rattle.burst.specs.Laws.{covered}
-use Rattle.slave.specs.declared.answer.Response.TheVariants.{Okay}
-use Rattle.slave.specs.declared.answer.Channel.{Channel}
-use Rattle.slave.specs.declared.answer.Channel.TheVariants.{Write, Read}
+use Rattle.slave.specs.declared.response.Response.TheVariants.{Okay}
+use Rattle.slave.specs.declared.channels.Channel.{Channel}
+use Rattle.slave.specs.declared.channels.Channel.TheVariants.{Write, Read}
 use Rattle.slave.specs.Meaning.{plain, read_only, is_there, Board}
 use Rattle.slave.specs.Lanes.{lane_byte, is_plain}
 use Rattle.slave.specs.Lanes.{rank as response_rank}

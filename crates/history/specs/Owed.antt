@@ -3,9 +3,9 @@ use Rattle.std.specs.Prelude.{◌≡◌, ℕ, ◌+◌, Bool, if◌then◌else◌
 use Rattle.std.specs.Bool.{beq}
 use Rattle.burst.specs.Rules.{fault_at}
 use Rattle.burst.specs.Beats.{first_refusal, address_of, last_of}
-use Rattle.slave.specs.declared.answer.SlaveFault.TheVariants.{Strobe}
-use Rattle.slave.specs.declared.answer.Channel.{Channel}
-use Rattle.slave.specs.declared.answer.Channel.TheVariants.{Write, Read}
+use Rattle.slave.specs.declared.fault.SlaveFault.TheVariants.{Strobe}
+use Rattle.slave.specs.declared.channels.Channel.{Channel}
+use Rattle.slave.specs.declared.channels.Channel.TheVariants.{Write, Read}
 use Rattle.slave.specs.Lanes.{stray, worse}
 use Rattle.slave.specs.Acts.{left}
 use Rattle.fabric.specs.declared.types.Request.{Request}

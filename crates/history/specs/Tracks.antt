@@ -1,9 +1,9 @@
 -- What a fabric and its slave are after the history of a run: what the history says, and nothing else.
 use Rattle.std.specs.Prelude.{◌≡◌, min, true, ◌∷◌, map, Some, None, Option, Result}
-use Rattle.slave.specs.declared.answer.Response.{Response}
-use Rattle.slave.specs.declared.answer.Response.TheVariants.{Okay}
-use Rattle.slave.specs.declared.answer.Channel.{Channel}
-use Rattle.slave.specs.declared.answer.Channel.TheVariants.{Write, Read}
+use Rattle.slave.specs.declared.response.Response.{Response}
+use Rattle.slave.specs.declared.response.Response.TheVariants.{Okay}
+use Rattle.slave.specs.declared.channels.Channel.{Channel}
+use Rattle.slave.specs.declared.channels.Channel.TheVariants.{Write, Read}
 use Rattle.slave.specs.Meaning.{Meaning, Stand, idle, busy, Board}
 use Rattle.fabric.specs.declared.types.Act.{Act}
 use Rattle.fabric.specs.declared.types.Act.TheVariants.{Request as Ask, Grant, Put, Take}

@@ -12,12 +12,12 @@ use Rattle.std.proofs.lemmas.Bool.{true≢false, lt-ltb, cases_lt}
 use Rattle.std.proofs.lemmas.List.{get_or_past}
 use Rattle.std.proofs.lemmas.Nat.{mod_below}
 use Rattle.burst.specs.declared.raw.RawBurst.{RawBurst}
-use Rattle.burst.specs.declared.raw.Width.{Width}
+use Rattle.burst.specs.declared.width.Width.{Width}
 use Rattle.burst.specs.Rules.{width_bytes}
 use Rattle.burst.specs.Beats.{IsLawful, address_of, last_of, cover_of}
 use Rattle.burst.proofs.Facts.{beat_in_word, width_power}
-use Rattle.slave.specs.declared.answer.Response.{Response}
-use Rattle.slave.specs.declared.answer.Response.TheVariants.{Okay}
+use Rattle.slave.specs.declared.response.Response.{Response}
+use Rattle.slave.specs.declared.response.Response.TheVariants.{Okay}
 use Rattle.slave.specs.Channels.{worst_at}
 use Rattle.slave.specs.Meaning.{plain, unmapped, Stand, idle, busy, told, sound_stand, Sound, is_there, with_write}
 use Rattle.slave.specs.Lanes.{stray, written}

@@ -2,8 +2,8 @@
 use Rattle.std.specs.Prelude.{ℕ, true, false, if◌then◌else◌, List, length, vec_items, ◌==◌}
 use Rattle.std.specs.Global.{Vec}
 use Rattle.burst.specs.Rules.{width_bytes}
-use Rattle.slave.specs.declared.answer.Response.{Response}
-use Rattle.slave.specs.declared.answer.Response.TheVariants.{Okay}
+use Rattle.slave.specs.declared.response.Response.{Response}
+use Rattle.slave.specs.declared.response.Response.TheVariants.{Okay}
 use Rattle.slave.specs.Channels.{worst_at}
 use Rattle.slave.specs.Meaning.{Meaning, Stand, idle, dead, told}
 use Rattle.ram.specs.declared.port.Port.{Port}

@@ -4,10 +4,10 @@ use Rattle.std.proofs.Common.{arith, sym, ◌∙◌, ap, ⊎_elim}
 use Rattle.std.proofs.lemmas.Bool.{true≢false, lt-ltb, cases_lt}
 use Rattle.std.proofs.lemmas.List.{get_or_past}
 use Rattle.std.proofs.lemmas.Nat.{mod_below}
-use Rattle.burst.specs.declared.raw.Width.{Width}
+use Rattle.burst.specs.declared.width.Width.{Width}
 use Rattle.burst.specs.Rules.{width_bytes}
 use Rattle.burst.proofs.Facts.{width_power}
-use Rattle.slave.specs.declared.answer.Response.{Response}
+use Rattle.slave.specs.declared.response.Response.{Response}
 use Rattle.slave.specs.Meaning.{plain, unmapped, Stand, told, sound_stand, Sound, is_there}
 use Rattle.slave.proofs.Soundness.{quiet_at}
 use Rattle.ram.specs.declared.ram.Ram.{Ram}

@@ -4,7 +4,7 @@ ghost use Rattle.burst.specs.Beats.{covers};
 ghost use Rattle.burst.specs.Rules.{width_bytes};
 ghost use Rattle.ram.specs.Memory.{put_lanes, kind_at, memory_board};
 ghost use Rattle.slave.specs.Lanes.{write_response, read_response, shown, read_word, read_worst, write_worst};
-ghost use Rattle.slave.specs.declared.answer.Response.TheVariants.{Okay};
+ghost use Rattle.slave.specs.declared.response.Response.TheVariants.{Okay};
 
 use burst::{Cover, LANES, Width};
 use slave::Response;

@@ -25,7 +25,7 @@ impl Port {
     ghost use Rattle.ram.specs.Shows.{shows, through};
     ghost use Rattle.slave.specs.Acts.{open_answer, open_after, give_answer, give_after, take_answer, take_after};
     ghost use Rattle.slave.specs.Meaning.{idle};
-    ghost use Rattle.slave.specs.declared.answer.Response.TheVariants.{Okay};
+    ghost use Rattle.slave.specs.declared.response.Response.TheVariants.{Okay};
     ghost use Rattle.std.specs.Prelude.{IfOk, List, ℕ, false, is_ok};
 
     // An idle port to memory of this length, or the first rule that the numbers break.

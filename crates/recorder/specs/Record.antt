@@ -1,6 +1,6 @@
 -- The record of the bursts opened on a slave, in order of opening.
 use Rattle.std.specs.Prelude.{ℕ, ◌+◌, cond, List, [], ◌∷◌, ◌++◌, length, Option, nat_lt, slice_get}
-use Rattle.slave.specs.declared.answer.Channel.TheVariants.{Write}
+use Rattle.slave.specs.declared.channels.Channel.TheVariants.{Write}
 use Rattle.recorder.specs.declared.record.Opened.{Opened}
 
 -- the slots: so many bursts are recorded at most

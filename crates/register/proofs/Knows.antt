@@ -4,16 +4,16 @@ use Rattle.std.proofs.lemmas.Bool.{true≢false, and_from, lt-ltb}
 use Rattle.burst.specs.declared.raw.RawBurst.{RawBurst}
 use Rattle.burst.specs.Rules.{width_bytes}
 use Rattle.burst.specs.Beats.{raw_of, address_of, last_of}
-use Rattle.slave.specs.declared.answer.Channel.{Channel}
-use Rattle.slave.specs.declared.answer.Channel.TheVariants.{Write, Read}
-use Rattle.slave.specs.declared.answer.OpenBurst.{OpenBurst}
+use Rattle.slave.specs.declared.channels.Channel.{Channel}
+use Rattle.slave.specs.declared.channels.Channel.TheVariants.{Write, Read}
+use Rattle.slave.specs.declared.open_burst.OpenBurst.{OpenBurst}
 use Rattle.slave.specs.declared.snapshot.Snapshot.{Snapshot}
 use Rattle.slave.specs.Meaning.{Meaning, idle, busy, with_read, stand_at, is_idle, told, Sound}
 use Rattle.slave.specs.Lanes.{stray}
 use Rattle.slave.specs.Acts.{past, left, give_after, take_after, open_answer, open_after, admission, on_ok, map_ok, beat_at, took_answer, take_answer}
 use Rattle.slave.specs.Acts.{opened as slave_opened}
-use Rattle.slave.specs.declared.answer.SlaveFault.{SlaveFault}
-use Rattle.slave.specs.declared.answer.SlaveFault.TheVariants.{AlreadyOpen, Dead, NotOpen}
+use Rattle.slave.specs.declared.fault.SlaveFault.{SlaveFault}
+use Rattle.slave.specs.declared.fault.SlaveFault.TheVariants.{AlreadyOpen, Dead, NotOpen}
 use Rattle.slave.specs.Snapshots.{answers_for, place_at, with_place}
 use Rattle.slave.proofs.Calls.{give_taken, take_taken, give_read, open_left}
 use Rattle.slave.proofs.Snapshots.{Moved, known, known_place, follows, give_moves, take_moves, open_moves}

@@ -7,9 +7,9 @@ use Rattle.std.proofs.Math.Bool.{Bool-set}
 use mathlib.Core.HLevel.{is_prop→PathP}
 use Rattle.burst.specs.Beats.{address_of, last_of}
 use Rattle.burst.specs.declared.raw.RawBurst.{RawBurst}
-use Rattle.slave.specs.declared.answer.SlaveFault.{SlaveFault}
-use Rattle.slave.specs.declared.answer.Given.TheVariants.{More, Done}
-use Rattle.slave.specs.declared.answer.Channel.TheVariants.{Read}
+use Rattle.slave.specs.declared.fault.SlaveFault.{SlaveFault}
+use Rattle.slave.specs.declared.given.Given.TheVariants.{More, Done}
+use Rattle.slave.specs.declared.channels.Channel.TheVariants.{Read}
 use Rattle.slave.specs.Meaning.{Meaning, Stand, idle, busy, with_read}
 use Rattle.slave.specs.Lanes.{stray}
 use Rattle.slave.specs.Acts.{give_after, give_answer, worst_after, left, open_answer, open_after, on_ok}

@@ -1,8 +1,8 @@
 -- What a register slice shows, which beat it holds, and what the slave below was given.
 use Rattle.std.specs.Prelude.{ℕ, Some, None, Option, Ok, Err, Result}
-use Rattle.slave.specs.declared.answer.SlaveFault.{SlaveFault}
-use Rattle.slave.specs.declared.answer.Given.{Given}
-use Rattle.slave.specs.declared.answer.Given.TheVariants.{More, Done}
+use Rattle.slave.specs.declared.fault.SlaveFault.{SlaveFault}
+use Rattle.slave.specs.declared.given.Given.{Given}
+use Rattle.slave.specs.declared.given.Given.TheVariants.{More, Done}
 use Rattle.slave.specs.Meaning.{Meaning}
 use Rattle.slave.specs.Acts.{give_after, take_after}
 use Rattle.register.specs.declared.held.Held.{Held}

@@ -5,8 +5,8 @@ use Rattle.std.specs.Char.{digit_value}
 use Rattle.std.specs.Str.Parse.{AllDigits}
 use Rattle.std.proofs.lemmas.Fmt.{decimal_injective, decimal_is_IsNumeral}
 use Rattle.std.proofs.lemmas.Bool.Decides.{nat_tests}
-use Rattle.slave.specs.declared.answer.Response.{Response}
-use Rattle.slave.specs.declared.answer.Response.TheVariants.{Okay, SlvErr, DecErr}
+use Rattle.slave.specs.declared.response.Response.{Response}
+use Rattle.slave.specs.declared.response.Response.TheVariants.{Okay, SlvErr, DecErr}
 use Rattle.report.specs.declared.told.Layer.{Layer}
 use Rattle.report.specs.declared.told.Layer.TheVariants.{Slave, Fabric, Bench}
 use Rattle.report.specs.Lines.{hex2, hex_bytes, response_name, layer_letter, source, last_word}

@@ -1,6 +1,6 @@
 -- Lines tell their acts' numbers and outcomes.
 use Rattle.std.proofs.Common.{◌≡◌, ℕ, ◌^◌, ◌<◌, Bool, true, false, cond, eqb, List, [], ◌∷◌, ◌++◌, drop, codes, decimal, Ok, Err, sym, refl, ap, ◌∙◌, append_assoc, arith, lit<}
-use Rattle.slave.specs.declared.answer.Response.{Response}
+use Rattle.slave.specs.declared.response.Response.{Response}
 use Rattle.fabric.specs.declared.types.Answer.TheVariants.{Accepted, Granted, More, Done, Beat}
 use Rattle.report.specs.declared.told.Layer.{Layer}
 use Rattle.report.specs.Outcomes.{Told}

@@ -1,8 +1,8 @@
 -- The bytes of a report line.
 use Rattle.std.specs.Prelude.{ℕ, zero, suc, ◌/◌, ◌%◌, true, cond, if◌then◌else◌, List, [], ◌∷◌, ◌++◌, length, drop, codes, decimal, Ok, Err, ◌==◌, nat_le}
 use Rattle.std.specs.Fmt.{digit_glyph}
-use Rattle.slave.specs.declared.answer.Response.{Response}
-use Rattle.slave.specs.declared.answer.Response.TheVariants.{Okay, SlvErr, DecErr}
+use Rattle.slave.specs.declared.response.Response.{Response}
+use Rattle.slave.specs.declared.response.Response.TheVariants.{Okay, SlvErr, DecErr}
 use Rattle.fabric.specs.declared.types.Answer.{Answer}
 use Rattle.fabric.specs.declared.types.Answer.TheVariants.{Accepted, Granted, More, Done, Beat}
 use Rattle.report.specs.declared.told.Layer.{Layer}

@@ -1,6 +1,6 @@
 -- The code of a record: which act it holds.
 use Rattle.std.specs.Prelude.{◌≡◌, ℕ, ◌<◌, Result, MatchResult}
-use Rattle.slave.specs.declared.answer.Channel.TheVariants.{Write, Read}
+use Rattle.slave.specs.declared.channels.Channel.TheVariants.{Write, Read}
 use Rattle.fabric.specs.declared.types.Act.{Act}
 use Rattle.fabric.specs.declared.types.Act.TheVariants.{Request, Grant, Put, Take}
 use Rattle.script.specs.declared.fault.ScriptFault.{ScriptFault}

@@ -4,9 +4,9 @@ use Rattle.std.proofs.lemmas.Bool.{cond-true, cond-false, true≢false, and_part
 use Rattle.burst.specs.declared.raw.RawBurst.{RawBurst}
 use Rattle.burst.specs.Rules.{fault_at}
 use Rattle.burst.specs.Beats.{address_of, last_of, first_refusal, IsLawful}
-use Rattle.slave.specs.declared.answer.Channel.{Channel}
-use Rattle.slave.specs.declared.answer.SlaveFault.{SlaveFault}
-use Rattle.slave.specs.declared.answer.SlaveFault.TheVariants.{Unlawful, Simple, Strobe, Dead, AlreadyOpen}
+use Rattle.slave.specs.declared.channels.Channel.{Channel}
+use Rattle.slave.specs.declared.fault.SlaveFault.{SlaveFault}
+use Rattle.slave.specs.declared.fault.SlaveFault.TheVariants.{Unlawful, Simple, Strobe, Dead, AlreadyOpen}
 use Rattle.slave.specs.Meaning.{Meaning, Stand, idle, busy, with_read, stand_at, is_idle, is_at, same_burst, sound_stand}
 use Rattle.slave.specs.Lanes.{stray}
 use Rattle.slave.specs.Acts.{on_ok, map_ok, then_ok, beat_at, past, too_much, admission, open_answer, open_after, opened, give_beat, give_answer, give_after, gave_answer, gave_after, take_answer, take_after, took_answer}

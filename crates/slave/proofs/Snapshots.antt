@@ -3,15 +3,15 @@ use Rattle.std.proofs.Common.{◌≡◌, Bool, true, false, ◌&&◌, ℕ, Optio
 use Rattle.std.specs.Bool.{beq}
 use Rattle.std.proofs.lemmas.Bool.{true≢false, and_parts, and_from, eqb-true, eq-eqb}
 use Rattle.burst.specs.Rules.{width_bytes}
-use Rattle.slave.specs.declared.answer.Channel.{Channel}
-use Rattle.slave.specs.declared.answer.Channel.TheVariants.{Write, Read}
-use Rattle.slave.specs.declared.answer.OpenBurst.{OpenBurst}
+use Rattle.slave.specs.declared.channels.Channel.{Channel}
+use Rattle.slave.specs.declared.channels.Channel.TheVariants.{Write, Read}
+use Rattle.slave.specs.declared.open_burst.OpenBurst.{OpenBurst}
 use Rattle.slave.specs.declared.snapshot.Snapshot.{Snapshot}
 use Rattle.slave.specs.Channels.{other}
 use Rattle.slave.specs.Meaning.{Meaning, Stand, idle, busy, is_idle, stand_at, told, same_stand, with_read}
 use Rattle.slave.specs.Snapshots.{answers_for, place_at, with_place}
 use Rattle.slave.specs.Acts.{give_after, take_after, open_after, open_answer, opened, beat_at, on_ok, past}
-use Rattle.slave.specs.declared.answer.SlaveFault.{SlaveFault}
+use Rattle.slave.specs.declared.fault.SlaveFault.{SlaveFault}
 use Rattle.burst.specs.declared.raw.RawBurst.{RawBurst}
 use Rattle.slave.proofs.Calls.{idle_is, at_is, is_at_self, give_live, give_width, give_most, give_full, give_read}
 

@@ -5,10 +5,10 @@ use Rattle.std.proofs.lemmas.Nat.{mod_below}
 use Rattle.std.proofs.lemmas.Bool.Decides.{nat_tests}
 use Rattle.burst.specs.declared.raw.RawBurst.{RawBurst}
 use Rattle.burst.specs.Beats.{address_of, last_of, covers, bit}
-use Rattle.slave.specs.declared.answer.Response.{Response}
-use Rattle.slave.specs.declared.answer.Response.TheVariants.{Okay}
-use Rattle.slave.specs.declared.answer.SlaveFault.{SlaveFault}
-use Rattle.slave.specs.declared.answer.SlaveFault.TheVariants.{Strobe, Dead, NotOpen}
+use Rattle.slave.specs.declared.response.Response.{Response}
+use Rattle.slave.specs.declared.response.Response.TheVariants.{Okay}
+use Rattle.slave.specs.declared.fault.SlaveFault.{SlaveFault}
+use Rattle.slave.specs.declared.fault.SlaveFault.TheVariants.{Strobe, Dead, NotOpen}
 use Rattle.slave.specs.Meaning.{Meaning, ByteKind, plain, read_only, absent, unmapped, Stand, idle, busy, Sound, sound_stand, is_there, is_idle, with_read}
 use Rattle.slave.specs.Channels.{worst_at}
 use Rattle.slave.specs.Lanes.{stray, lane_byte, is_plain}

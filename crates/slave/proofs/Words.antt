@@ -7,7 +7,7 @@ use Rattle.burst.proofs.Masks.{below_8, none_below, mask_covers, lane_of}
 use Rattle.slave.specs.Meaning.{Meaning, board, plain, read_only, absent, unmapped, Sound}
 use Rattle.slave.specs.Lanes.{lane_byte, word_of, stray, shown, shown_of}
 use Rattle.burst.specs.declared.raw.RawBurst.{RawBurst}
-use Rattle.burst.specs.declared.raw.Width.TheVariants.{Eight}
+use Rattle.burst.specs.declared.width.Width.TheVariants.{Eight}
 
 -- a word has eight lanes
 pub no_lane_byte : (w i : ℕ) → w < 2 ^ 64 → 8 ≤ i → lane_byte w i ≡ 0

@@ -1,7 +1,7 @@
 -- The worst of several responses.
 use Rattle.std.proofs.Common.{◌≡◌, ℕ, zero, suc, ◌+◌, ◌<◌, refl, ap, ◌∙◌, add-one, arith}
-use Rattle.slave.specs.declared.answer.Response.{Response}
-use Rattle.slave.specs.declared.answer.Response.TheVariants.{Okay, SlvErr, DecErr}
+use Rattle.slave.specs.declared.response.Response.{Response}
+use Rattle.slave.specs.declared.response.Response.TheVariants.{Okay, SlvErr, DecErr}
 use Rattle.slave.specs.Lanes.{worse, worst_lane}
 
 -- one lane more

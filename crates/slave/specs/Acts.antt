@@ -3,16 +3,16 @@ use Rattle.std.specs.Prelude.{ℕ, ◌+◌, ◌-◌, Bool, true, false, if◌the
 use Rattle.burst.specs.declared.raw.RawBurst.{RawBurst}
 use Rattle.burst.specs.Rules.{fault_number, fault_at}
 use Rattle.burst.specs.Beats.{raw_of, first_refusal, address_of, last_of, cover_of}
-use Rattle.slave.specs.declared.answer.Response.{Response}
-use Rattle.slave.specs.declared.answer.Response.TheVariants.{Okay}
-use Rattle.slave.specs.declared.answer.SlaveFault.{SlaveFault}
-use Rattle.slave.specs.declared.answer.SlaveFault.TheVariants.{Unlawful, Simple, Strobe, NotOpen, AlreadyOpen, Dead}
-use Rattle.slave.specs.declared.answer.Channel.{Channel}
-use Rattle.slave.specs.declared.answer.Channel.TheVariants.{Write, Read}
-use Rattle.slave.specs.declared.answer.Step.{Step}
-use Rattle.slave.specs.declared.answer.Step.TheVariants.{Open as StepOpen, Beat}
-use Rattle.slave.specs.declared.answer.Given.{Given}
-use Rattle.slave.specs.declared.answer.Given.TheVariants.{More, Done}
+use Rattle.slave.specs.declared.response.Response.{Response}
+use Rattle.slave.specs.declared.response.Response.TheVariants.{Okay}
+use Rattle.slave.specs.declared.fault.SlaveFault.{SlaveFault}
+use Rattle.slave.specs.declared.fault.SlaveFault.TheVariants.{Unlawful, Simple, Strobe, NotOpen, AlreadyOpen, Dead}
+use Rattle.slave.specs.declared.channels.Channel.{Channel}
+use Rattle.slave.specs.declared.channels.Channel.TheVariants.{Write, Read}
+use Rattle.slave.specs.declared.channels.Step.{Step}
+use Rattle.slave.specs.declared.channels.Step.TheVariants.{Open as StepOpen, Beat}
+use Rattle.slave.specs.declared.given.Given.{Given}
+use Rattle.slave.specs.declared.given.Given.TheVariants.{More, Done}
 use Rattle.slave.specs.Meaning.{Meaning, board, Stand, idle, busy, with_read, with_write, stand_at, is_idle}
 use Rattle.slave.specs.Lanes.{worse, stray, read_word, read_worst, write_worst, written}
 

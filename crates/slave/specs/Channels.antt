@@ -1,10 +1,10 @@
 -- Both channels of a slave.
-use Rattle.slave.specs.declared.answer.Response.{Response}
-use Rattle.slave.specs.declared.answer.Response.TheVariants.{Okay}
-use Rattle.slave.specs.declared.answer.Channel.{Channel}
-use Rattle.slave.specs.declared.answer.Channel.TheVariants.{Write, Read}
-use Rattle.slave.specs.declared.answer.ChannelState.{ChannelState}
-use Rattle.slave.specs.declared.answer.Channels.{Channels}
+use Rattle.slave.specs.declared.response.Response.{Response}
+use Rattle.slave.specs.declared.response.Response.TheVariants.{Okay}
+use Rattle.slave.specs.declared.channels.Channel.{Channel}
+use Rattle.slave.specs.declared.channels.Channel.TheVariants.{Write, Read}
+use Rattle.slave.specs.declared.channels.ChannelState.{ChannelState}
+use Rattle.slave.specs.declared.channels.Channels.{Channels}
 use Rattle.slave.specs.Meaning.{Stand, idle, busy}
 
 -- the worst response of a channel, OKAY where it is idle

@@ -1,9 +1,9 @@
 -- Words by their lanes, responses, and what a beat reads and writes.
 use Rattle.std.specs.Prelude.{ℕ, zero, suc, ◌+◌, ◌*◌, ◌/◌, ◌%◌, ◌^◌, Bool, true, false, if◌then◌else◌, not, ◌&&◌, nat_lt}
-use Rattle.burst.specs.declared.raw.Cover.{Cover}
+use Rattle.burst.specs.declared.cover.Cover.{Cover}
 use Rattle.burst.specs.Beats.{covers, lane_address, lane_mask, bit, any_below}
-use Rattle.slave.specs.declared.answer.Response.{Response}
-use Rattle.slave.specs.declared.answer.Response.TheVariants.{Okay, SlvErr, DecErr}
+use Rattle.slave.specs.declared.response.Response.{Response}
+use Rattle.slave.specs.declared.response.Response.TheVariants.{Okay, SlvErr, DecErr}
 use Rattle.slave.specs.Meaning.{ByteKind, plain, read_only, absent, unmapped, Board}
 
 -- the byte in lane i of a word

@@ -2,9 +2,9 @@
 use Rattle.std.specs.Prelude.{Bool, Option, ◌&&◌, ◌==◌}
 use Rattle.std.specs.Bool.{beq}
 use Rattle.burst.specs.Rules.{width_bytes}
-use Rattle.slave.specs.declared.answer.Channel.{Channel}
-use Rattle.slave.specs.declared.answer.Channel.TheVariants.{Write, Read}
-use Rattle.slave.specs.declared.answer.OpenBurst.{OpenBurst}
+use Rattle.slave.specs.declared.channels.Channel.{Channel}
+use Rattle.slave.specs.declared.channels.Channel.TheVariants.{Write, Read}
+use Rattle.slave.specs.declared.open_burst.OpenBurst.{OpenBurst}
 use Rattle.slave.specs.declared.snapshot.Snapshot.{Snapshot}
 use Rattle.slave.specs.Meaning.{Meaning, told, same_stand}
 

@@ -4,7 +4,7 @@ ghost use Rattle.burst.specs.Beats.{raw_of, IsLawful};
 ghost use Rattle.slave.specs.Acts.{admission, bare};
 ghost use Rattle.std.specs.Prelude.{◌≡◌, IfOk, OnOk};
 
-use crate::answer::SlaveFault;
+use crate::fault::SlaveFault;
 use burst::{Burst, BurstKind, RawBurst, Width};
 
 // The burst as a slave of this width, most and fullness takes it at an idle channel.

@@ -4,7 +4,10 @@ ghost use Rattle.slave.specs.Acts.{open_answer, open_after, give_answer, give_af
 ghost use Rattle.slave.specs.Meaning.{Meaning, Sound, stand_at, told};
 ghost use Rattle.std.specs.Prelude.{◌≡◌, false, is_ok};
 
-use crate::answer::{Channel, Given, Place, Response, SlaveFault};
+use crate::channels::{Channel, Place};
+use crate::fault::SlaveFault;
+use crate::given::Given;
+use crate::response::Response;
 use burst::{RawBurst, Width};
 
 // A slave, by what it shows. Each call's answer and the slave after it follow from what it showed before.

@@ -1,9 +1,9 @@
 // Lanes of words and strobes.
 ghost use Rattle.slave.specs.Lanes.{lane_byte, outside, worst_lane};
-ghost use Rattle.slave.specs.declared.answer.Response.{Response};
+ghost use Rattle.slave.specs.declared.response.Response.{Response};
 ghost use Rattle.std.specs.Prelude.{◌≡◌, ℕ, ◌<◌};
 
-use crate::answer::Response;
+use crate::response::Response;
 use burst::LANES;
 
 // The byte in lane i of a word, 0 from lane 8 on. A shift says it as the field does, lane i is bits 8i to 8i + 7;

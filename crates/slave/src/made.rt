@@ -3,9 +3,12 @@ ghost use Rattle.slave.specs.Making.{made};
 ghost use Rattle.slave.specs.Sound.{made_sound};
 ghost use Rattle.std.specs.Prelude.{◌≡◌};
 
-use crate::answer::{Channel, Given, Place, Response, SlaveFault};
+use crate::channels::{Channel, Place};
+use crate::fault::SlaveFault;
+use crate::given::Given;
 use crate::interface::Slave;
 use crate::making::MakeFault;
+use crate::response::Response;
 use burst::{MOST_BEATS, RawBurst, Width};
 
 impl<T: Slave> Slave for Result<T, MakeFault> {

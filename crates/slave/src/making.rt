@@ -4,7 +4,7 @@ ghost use Rattle.slave.specs.declared.making.MakeFault.TheVariants.{Below};
 ghost use Rattle.burst.specs.Rules.{width_bytes};
 ghost use Rattle.slave.specs.Making.{make_number, ready, is_width};
 
-use crate::answer::Channel;
+use crate::channels::Channel;
 use crate::interface::Slave;
 use burst::Width;
 

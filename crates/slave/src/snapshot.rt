@@ -4,7 +4,7 @@ ghost use Rattle.slave.specs.Meaning.{told};
 ghost use Rattle.slave.specs.Snapshots.{answers_for, place_at, with_place};
 ghost use Rattle.std.specs.Prelude.{◌≡◌, true};
 
-use crate::answer::{Channel, Place};
+use crate::channels::{Channel, Place};
 use crate::interface::Slave;
 use burst::Width;
 

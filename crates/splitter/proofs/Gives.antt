@@ -2,18 +2,18 @@
 use Rattle.std.proofs.Common.{◌≡◌, ℕ, ◌+◌, ◌<◌, ◌≤◌, Bool, true, false, cond, ltb, Option, Some, None, Ok, Err, is_ok, sym, refl, ap, ◌∙◌, subst, ⊎_elim}
 use Rattle.std.proofs.lemmas.Bool.{cases_Bool, le-ltb, ltb-false}
 use Rattle.burst.specs.declared.raw.RawBurst.{RawBurst}
-use Rattle.burst.specs.declared.raw.Cover.{Cover}
+use Rattle.burst.specs.declared.cover.Cover.{Cover}
 use Rattle.burst.specs.Beats.{IsLawful, address_of, last_of, cover_of, raw_of}
-use Rattle.slave.specs.declared.answer.Response.{Response}
-use Rattle.slave.specs.declared.answer.Response.TheVariants.{Okay}
-use Rattle.slave.specs.declared.answer.SlaveFault.{SlaveFault}
-use Rattle.slave.specs.declared.answer.SlaveFault.TheVariants.{NotOpen}
-use Rattle.slave.specs.declared.answer.Given.{Given}
-use Rattle.slave.specs.declared.answer.Given.TheVariants.{More, Done}
-use Rattle.slave.specs.declared.answer.Channels.{Channels}
-use Rattle.slave.specs.declared.answer.OpenBurst.{OpenBurst}
-use Rattle.slave.specs.declared.answer.Channel.TheVariants.{Write}
-use Rattle.slave.specs.declared.answer.Step.TheVariants.{Beat}
+use Rattle.slave.specs.declared.response.Response.{Response}
+use Rattle.slave.specs.declared.response.Response.TheVariants.{Okay}
+use Rattle.slave.specs.declared.fault.SlaveFault.{SlaveFault}
+use Rattle.slave.specs.declared.fault.SlaveFault.TheVariants.{NotOpen}
+use Rattle.slave.specs.declared.given.Given.{Given}
+use Rattle.slave.specs.declared.given.Given.TheVariants.{More, Done}
+use Rattle.slave.specs.declared.channels.Channels.{Channels}
+use Rattle.slave.specs.declared.open_burst.OpenBurst.{OpenBurst}
+use Rattle.slave.specs.declared.channels.Channel.TheVariants.{Write}
+use Rattle.slave.specs.declared.channels.Step.TheVariants.{Beat}
 use Rattle.slave.specs.Channels.{worst_at}
 use Rattle.slave.specs.Meaning.{Meaning, board, Stand, idle, busy, Sound, sound_stand, with_write, told}
 use Rattle.slave.specs.Lanes.{worse, stray, written, write_worst}

@@ -7,20 +7,20 @@ use Rattle.std.proofs.Props.{props}
 use mathlib.Core.HLevel.{is_prop→PathP}
 use Rattle.burst.specs.Rules.{width_bytes}
 use Rattle.burst.specs.declared.raw.RawBurst.{RawBurst}
-use Rattle.burst.specs.declared.checked.Burst.{Burst}
+use Rattle.burst.specs.declared.burst.Burst.{Burst}
 use Rattle.burst.specs.Beats.{IsLawful, raw_of}
 use Rattle.burst.proofs.Facts.{facts}
-use Rattle.slave.specs.declared.answer.Response.{Response}
-use Rattle.slave.specs.declared.answer.Response.TheVariants.{Okay}
-use Rattle.slave.specs.declared.answer.Channel.{Channel}
-use Rattle.slave.specs.declared.answer.Channel.TheVariants.{Write, Read}
-use Rattle.slave.specs.declared.answer.Channels.{Channels}
-use Rattle.slave.specs.declared.answer.Step.TheVariants.{Open, Beat}
+use Rattle.slave.specs.declared.response.Response.{Response}
+use Rattle.slave.specs.declared.response.Response.TheVariants.{Okay}
+use Rattle.slave.specs.declared.channels.Channel.{Channel}
+use Rattle.slave.specs.declared.channels.Channel.TheVariants.{Write, Read}
+use Rattle.slave.specs.declared.channels.Channels.{Channels}
+use Rattle.slave.specs.declared.channels.Step.TheVariants.{Open, Beat}
 use Rattle.slave.specs.Channels.{state_at, other}
 use Rattle.slave.specs.Meaning.{Meaning, Stand, idle, busy, Sound, sound_stand, with_write, stand_at, is_idle, told}
 use Rattle.slave.specs.Lanes.{worse}
-use Rattle.slave.specs.declared.answer.OpenBurst.{OpenBurst}
-use Rattle.slave.specs.declared.answer.SlaveFault.TheVariants.{AlreadyOpen, Dead}
+use Rattle.slave.specs.declared.open_burst.OpenBurst.{OpenBurst}
+use Rattle.slave.specs.declared.fault.SlaveFault.TheVariants.{AlreadyOpen, Dead}
 use Rattle.slave.specs.Acts.{on_ok, admission, open_after, opened, step_place, step_worst}
 use Rattle.slave.proofs.Calls.{idle_is}
 use Rattle.slave.proofs.Soundness.{past_sound}

@@ -3,15 +3,15 @@ use Rattle.std.proofs.Common.{◌≡◌, ℕ, ◌+◌, ◌<◌, ◌≤◌, true,
 use Rattle.std.proofs.lemmas.Bool.Decides.{nat_tests}
 use Rattle.burst.specs.declared.raw.RawBurst.{RawBurst}
 use Rattle.burst.specs.Beats.{IsLawful, cover_of, raw_of}
-use Rattle.slave.specs.declared.answer.Response.{Response}
-use Rattle.slave.specs.declared.answer.SlaveFault.{SlaveFault}
-use Rattle.slave.specs.declared.answer.SlaveFault.TheVariants.{NotOpen}
-use Rattle.slave.specs.declared.answer.Given.{Given}
-use Rattle.slave.specs.declared.answer.Given.TheVariants.{More, Done}
-use Rattle.slave.specs.declared.answer.Channels.{Channels}
-use Rattle.slave.specs.declared.answer.OpenBurst.{OpenBurst}
-use Rattle.slave.specs.declared.answer.Channel.TheVariants.{Read}
-use Rattle.slave.specs.declared.answer.Step.TheVariants.{Beat}
+use Rattle.slave.specs.declared.response.Response.{Response}
+use Rattle.slave.specs.declared.fault.SlaveFault.{SlaveFault}
+use Rattle.slave.specs.declared.fault.SlaveFault.TheVariants.{NotOpen}
+use Rattle.slave.specs.declared.given.Given.{Given}
+use Rattle.slave.specs.declared.given.Given.TheVariants.{More, Done}
+use Rattle.slave.specs.declared.channels.Channels.{Channels}
+use Rattle.slave.specs.declared.open_burst.OpenBurst.{OpenBurst}
+use Rattle.slave.specs.declared.channels.Channel.TheVariants.{Read}
+use Rattle.slave.specs.declared.channels.Step.TheVariants.{Beat}
 use Rattle.slave.specs.Meaning.{Meaning, board, Stand, idle, busy, Sound, sound_stand, with_read, told}
 use Rattle.slave.specs.Lanes.{worse, read_word, read_worst}
 use Rattle.slave.specs.Acts.{past, left, take_answer, take_after, given_left, took_answer, step_answer, step_place}

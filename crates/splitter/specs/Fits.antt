@@ -1,7 +1,7 @@
 -- Where the slave below a splitter stands.
 use Rattle.std.specs.Prelude.{ℕ, Bool, ◌&&◌, Some, None, Option, nat_le}
 use Rattle.burst.specs.declared.raw.RawBurst.{RawBurst}
-use Rattle.slave.specs.declared.answer.Channels.{Channels}
+use Rattle.slave.specs.declared.channels.Channels.{Channels}
 use Rattle.slave.specs.Meaning.{Meaning, Stand, idle, busy, same_stand, told}
 use Rattle.splitter.specs.Runs.{run_answer}
 

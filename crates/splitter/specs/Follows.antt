@@ -2,8 +2,8 @@
 -- the slave below stands where the place implies: nothing is opened, and it is as it was.
 use Rattle.std.specs.Prelude.{ℕ, if◌then◌else◌, Some, None, Option}
 use Rattle.burst.specs.declared.raw.RawBurst.{RawBurst}
-use Rattle.slave.specs.declared.answer.Channel.{Channel}
-use Rattle.slave.specs.declared.answer.Channel.TheVariants.{Write, Read}
+use Rattle.slave.specs.declared.channels.Channel.{Channel}
+use Rattle.slave.specs.declared.channels.Channel.TheVariants.{Write, Read}
 use Rattle.slave.specs.Meaning.{Meaning, Stand, is_idle, stand_at}
 use Rattle.slave.specs.Acts.{open_after, give_after, take_after}
 use Rattle.splitter.specs.declared.splitter.Splitter.{Splitter}

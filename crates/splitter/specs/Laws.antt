@@ -3,7 +3,7 @@ use Rattle.std.specs.Prelude.{◌≡◌, ℕ, ◌<◌, ◌≤◌, true, [], ◌�
 use Rattle.burst.specs.declared.raw.RawBurst.{RawBurst}
 use Rattle.burst.specs.Beats.{IsLawful, cover_of, incr_burst}
 use Rattle.burst.specs.Edges.{burst}
-use Rattle.slave.specs.declared.answer.Channel.{Channel}
+use Rattle.slave.specs.declared.channels.Channel.{Channel}
 use Rattle.slave.specs.Meaning.{Meaning, idle, stand_at}
 use Rattle.slave.specs.Acts.{open_answer}
 use Rattle.splitter.specs.Runs.{run_of, beat_in, runs, beats, joined}

@@ -1,6 +1,6 @@
 -- Which slave a splitter may stand over, and what it shows then.
 use Rattle.std.specs.Prelude.{ℕ, if◌then◌else◌, Ok, Err, Result}
-use Rattle.slave.specs.declared.answer.Response.TheVariants.{Okay}
+use Rattle.slave.specs.declared.response.Response.TheVariants.{Okay}
 use Rattle.slave.specs.declared.making.MakeFault.{MakeFault}
 use Rattle.slave.specs.declared.making.MakeFault.TheVariants.{Measure, Below}
 use Rattle.slave.specs.Making.{ready}

@@ -1,7 +1,7 @@
 -- The runs that a burst goes down in: INCR bursts of at most M beats each.
 use Rattle.std.specs.Prelude.{ℕ, zero, suc, ◌+◌, ◌-◌, ◌*◌, ◌/◌, ◌^◌, min, if◌then◌else◌, ◌&&◌, List, [], ◌∷◌, ◌++◌, Some, None, Option, ◌==◌, nat_lt}
 use Rattle.burst.specs.declared.raw.RawBurst.{RawBurst}
-use Rattle.burst.specs.declared.raw.Cover.{Cover}
+use Rattle.burst.specs.declared.cover.Cover.{Cover}
 use Rattle.burst.specs.Beats.{address_of, cover_of, turn_of, incr_burst}
 
 -- how many beats of a WRAP burst come before it turns back to its container's start

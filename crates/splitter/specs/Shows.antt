@@ -1,7 +1,7 @@
 -- What a splitter shows.
 use Rattle.std.specs.Prelude.{ℕ, true}
-use Rattle.slave.specs.declared.answer.Response.{Response}
-use Rattle.slave.specs.declared.answer.Channels.{Channels}
+use Rattle.slave.specs.declared.response.Response.{Response}
+use Rattle.slave.specs.declared.channels.Channels.{Channels}
 use Rattle.slave.specs.Channels.{worst_at}
 use Rattle.slave.specs.Lanes.{worse}
 use Rattle.slave.specs.Meaning.{Meaning, Stand, told}

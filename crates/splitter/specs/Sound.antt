@@ -3,8 +3,8 @@ use Rattle.std.specs.Prelude.{◌≡◌, true}
 use Rattle.std.proofs.Common.{arith, refl, subst}
 use Rattle.std.proofs.lemmas.Bool.{true≢false}
 use Rattle.burst.specs.Rules.{width_bytes}
-use Rattle.slave.specs.declared.answer.Channel.{Channel}
-use Rattle.slave.specs.declared.answer.Channel.TheVariants.{Write, Read}
+use Rattle.slave.specs.declared.channels.Channel.{Channel}
+use Rattle.slave.specs.declared.channels.Channel.TheVariants.{Write, Read}
 use Rattle.slave.specs.Channels.{state_at}
 use Rattle.slave.specs.Lanes.{worse}
 use Rattle.slave.specs.Meaning.{Meaning, told, sound_stand, Sound}

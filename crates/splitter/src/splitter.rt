@@ -2,7 +2,7 @@
 ghost use Rattle.burst.specs.Rules.{width_bytes};
 ghost use Rattle.slave.specs.Channels.{state_at};
 ghost use Rattle.slave.specs.Meaning.{sound_stand, told};
-ghost use Rattle.slave.specs.declared.answer.Channel.{Channel};
+ghost use Rattle.slave.specs.declared.channels.Channel.{Channel};
 ghost use Rattle.splitter.specs.Fits.{stands};
 ghost use Rattle.std.specs.Prelude.{◌≡◌, true};
 

@@ -1,7 +1,7 @@
 -- Acts that move a frame in beats of eight bytes.
 use Rattle.std.specs.Prelude.{ℕ, ◌+◌, ◌*◌, List, map, replicate, ◌==◌}
 use Rattle.std.specs.List.{range_with_len}
-use Rattle.slave.specs.declared.answer.Channel.{Channel}
+use Rattle.slave.specs.declared.channels.Channel.{Channel}
 use Rattle.fabric.specs.declared.types.Act.{Act}
 use Rattle.fabric.specs.declared.types.Act.TheVariants.{Request as Ask, Put, Take}
 use Rattle.workload.specs.declared.step.Puts.{Puts}

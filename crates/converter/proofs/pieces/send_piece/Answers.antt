@@ -1,6 +1,6 @@
 use Rattle.std.proofs.Common.{ap, ◌∙◌}
 use Rattle.burst.specs.Rules.{width_bytes}
-use Rattle.slave.specs.declared.answer.Channel.TheVariants.{Write}
+use Rattle.slave.specs.declared.channels.Channel.TheVariants.{Write}
 use Rattle.slave.specs.Acts.{open_after}
 use Rattle.converter.proofs.Cuts.{beat_on}
 use Rattle.converter.proofs.Parts.{part_sent}

@@ -1,5 +1,5 @@
 use Rattle.std.proofs.Common.{◌≡◌, ◌+◌, cond}
-use Rattle.slave.specs.declared.answer.Response.TheVariants.{Okay}
+use Rattle.slave.specs.declared.response.Response.TheVariants.{Okay}
 use Rattle.slave.specs.Lanes.{worst_lane, write_response}
 use Rattle.burst.specs.Beats.{bit}
 use Rattle.ram.specs.Memory.{put_lanes, kind_at}

@@ -1,7 +1,7 @@
 -- The worst response of the lanes so far.
 use Rattle.std.proofs.Common.{◌≡◌, ℕ, ◌<◌}
 use Rattle.slave.specs.Lanes.{worst_lane}
-use Rattle.slave.specs.declared.answer.Response.{Response}
+use Rattle.slave.specs.declared.response.Response.{Response}
 use Rattle.slave.proofs.lanes.worst_of.Given as goal
 
 abbrev pub invariant-loop-i : goal.invariant-loop-i

@@ -1,7 +1,7 @@
 use Rattle.std.proofs.Common.{◌≡◌, ◌^◌, ltb, sym, subst}
 use Rattle.burst.specs.Beats.{raw_of, cover_of, last_from}
 use Rattle.burst.proofs.Facts.{some_is}
-use Rattle.burst.specs.declared.raw.Cover.{Cover}
+use Rattle.burst.specs.declared.cover.Cover.{Cover}
 use Rattle.burst.specs.Rules.{KeepsPage}
 use Rattle.converter.proofs.Bursts.{beat_of}
 use Rattle.converter.proofs.beat.BusBeat.next_of.Goals as goal

@@ -1,7 +1,7 @@
 use Rattle.std.proofs.Common.{◌≡◌, ◌^◌, ◌≤◌, sym, subst}
 use Rattle.burst.specs.Rules.{width_bytes}
 use Rattle.burst.proofs.Facts.{width_some}
-use Rattle.burst.specs.declared.raw.Cover.{Cover}
+use Rattle.burst.specs.declared.cover.Cover.{Cover}
 use Rattle.converter.specs.Fits.{Cuttable}
 use Rattle.converter.proofs.Cuts.{code_fits, whole_cuttable, beat_on}
 use Rattle.converter.proofs.Left.{left_first}

@@ -1,9 +1,9 @@
 use Rattle.std.proofs.Common.{is_ok, refl, ap, ◌∙◌}
-use Rattle.burst.specs.declared.raw.Cover.{Cover}
+use Rattle.burst.specs.declared.cover.Cover.{Cover}
 use Rattle.burst.specs.Rules.{width_bytes}
 use Rattle.burst.specs.Beats.{raw_of}
-use Rattle.slave.specs.declared.answer.Channel.TheVariants.{Write}
-use Rattle.slave.specs.declared.answer.Step.TheVariants.{Beat}
+use Rattle.slave.specs.declared.channels.Channel.TheVariants.{Write}
+use Rattle.slave.specs.declared.channels.Step.TheVariants.{Beat}
 use Rattle.slave.specs.Lanes.{stray}
 use Rattle.slave.specs.Meaning.{told}
 use Rattle.slave.specs.Acts.{step_answer}

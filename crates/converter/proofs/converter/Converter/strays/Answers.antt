@@ -1,5 +1,5 @@
 -- A beat is left, so the lanes are its own.
-use Rattle.slave.specs.declared.answer.Channel.TheVariants.{Write}
+use Rattle.slave.specs.declared.channels.Channel.TheVariants.{Write}
 use Rattle.converter.proofs.Told.{open_left_for}
 use Rattle.converter.proofs.converter.Converter.strays.Goals as goal
 

@@ -1,6 +1,6 @@
 use Rattle.std.proofs.Common.{Ok, refl, ap, ◌∙◌}
 use Rattle.burst.specs.Beats.{raw_of}
-use Rattle.slave.specs.declared.answer.Channel.TheVariants.{Read}
+use Rattle.slave.specs.declared.channels.Channel.TheVariants.{Read}
 use Rattle.slave.specs.Making.{ready}
 use Rattle.slave.specs.Meaning.{told}
 use Rattle.converter.proofs.Told.{open_lawful_for, open_left_for, beat_opens, took, took_below}

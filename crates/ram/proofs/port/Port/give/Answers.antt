@@ -1,6 +1,6 @@
 use Rattle.std.proofs.Common.{◌≡◌, false, is_ok, sym, ap, ◌∙◌, ltb}
 use Rattle.std.proofs.lemmas.Bool.{true≢false}
-use Rattle.slave.specs.declared.answer.Step.TheVariants.{Beat}
+use Rattle.slave.specs.declared.channels.Step.TheVariants.{Beat}
 use Rattle.burst.specs.Rules.{width_bytes}
 use Rattle.burst.specs.Beats.{raw_of, address_of, last_of}
 use Rattle.slave.specs.Lanes.{stray}

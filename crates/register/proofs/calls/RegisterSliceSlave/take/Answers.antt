@@ -1,7 +1,7 @@
 use Rattle.std.proofs.Common.{◌≡◌, Ok, is_ok, refl, sym, ap, ◌∙◌}
 use Rattle.std.proofs.lemmas.Bool.{true≢false}
 use Rattle.burst.specs.Beats.{raw_of}
-use Rattle.slave.specs.declared.answer.Channel.TheVariants.{Read}
+use Rattle.slave.specs.declared.channels.Channel.TheVariants.{Read}
 use Rattle.slave.specs.Meaning.{told, busy}
 use Rattle.slave.specs.Acts.{take_answer, take_after, took_answer}
 use Rattle.slave.specs.Snapshots.{answers_for, with_place}

@@ -2,7 +2,7 @@
 use Rattle.std.proofs.Common.{◌≡◌, ◌<◌, true, false, is_ok, Some, refl, sym, ap, ◌∙◌, arith}
 use Rattle.std.proofs.lemmas.Bool.{true≢false}
 use Rattle.burst.specs.Beats.{raw_of}
-use Rattle.slave.specs.declared.answer.Channel.TheVariants.{Write}
+use Rattle.slave.specs.declared.channels.Channel.TheVariants.{Write}
 use Rattle.slave.specs.Acts.{give_answer, give_after}
 use Rattle.slave.specs.Acts.{left as beats_left}
 use Rattle.slave.specs.Snapshots.{answers_for, with_place}

@@ -1,8 +1,8 @@
 use Rattle.std.proofs.Common.{◌≡◌, Err, is_ok, refl, sym, ap, ◌∙◌}
 use Rattle.std.proofs.lemmas.Bool.{true≢false}
 use Rattle.std.proofs.lemmas.Result.{err_from_is_err_and}
-use Rattle.slave.specs.declared.answer.Channel.TheVariants.{Write}
-use Rattle.slave.specs.declared.answer.Channels.{Channels}
+use Rattle.slave.specs.declared.channels.Channel.TheVariants.{Write}
+use Rattle.slave.specs.declared.channels.Channels.{Channels}
 use Rattle.slave.specs.Acts.{give_after}
 use Rattle.slave.specs.Meaning.{Meaning, told}
 use Rattle.slave.proofs.Calls.{give_refused}

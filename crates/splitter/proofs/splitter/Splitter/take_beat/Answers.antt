@@ -1,9 +1,9 @@
 use Rattle.std.proofs.Common.{◌≡◌, false, Err, Ok, refl, sym, ap, ◌∙◌}
 use Rattle.std.proofs.lemmas.Bool.{true≢false}
 use Rattle.std.proofs.lemmas.Result.{err_from_is_err_and}
-use Rattle.slave.specs.declared.answer.Response.TheVariants.{Okay}
-use Rattle.slave.specs.declared.answer.Channel.TheVariants.{Read}
-use Rattle.slave.specs.declared.answer.Channels.{Channels}
+use Rattle.slave.specs.declared.response.Response.TheVariants.{Okay}
+use Rattle.slave.specs.declared.channels.Channel.TheVariants.{Read}
+use Rattle.slave.specs.declared.channels.Channels.{Channels}
 use Rattle.slave.specs.Acts.{take_after}
 use Rattle.slave.specs.Meaning.{Meaning, told}
 use Rattle.slave.proofs.Calls.{take_refused}
