@@ -1,5 +1,5 @@
 // Bursts that are written over a slave and read back.
-ghost use Rattle.depths.specs.Beats.{burst_of, word_of, given, written, taken, asked, brings, count_back, beats_back};
+ghost use Rattle.depths.specs.Beats.{burst_of, word_of, written, taken, asked, brings, count_back, beats_back};
 ghost use Rattle.slave.specs.Acts.{take_answer, take_after};
 ghost use Rattle.std.specs.Prelude.{◌≡◌, ◌≤◌};
 

@@ -7,5 +7,4 @@ mod held;
 mod pieces;
 #[cfg(test)]
 mod runs;
-#[cfg(test)]
 mod trace;
