@@ -1,30 +1,31 @@
 // The recording slave's calls: those below.
 ghost use Rattle.arrayvec.specs.ArrayVec.{array_vec_len};
-ghost use Rattle.recorder.specs.Record.{noted, counted};
-ghost use Rattle.slave.specs.Acts.{open_answer, open_after, on_ok, give_answer, give_after, take_answer, take_after};
+ghost use Rattle.recorder.specs.Record.{noted, counted, noted_on, counted_on};
+ghost use Rattle.slave.specs.Acts.{open_answer, open_after, give_answer, give_after, take_answer, take_after};
 ghost use Rattle.std.specs.Prelude.{◌≡◌, false, is_ok};
 
-use crate::record::{Opened, Recorder};
+use crate::record::{Call, Recorder};
 use burst::{RawBurst, Width};
 use slave::{Channel, Given, Place, Response, Slave, SlaveFault};
 
 impl<S> Recorder<S> {
-    // Notes a burst.
-    fn note(&mut self, opened: Opened)
+    // Notes a call.
+    fn note(&mut self, call: Call)
         ensures below { self.new.below ≡ self.old.below }
-        ensures record { self.new.record.items ≡ noted self.old.record.items opened }
-        ensures count { array_vec_len self.new.record ≡ counted (array_vec_len self.old.record) }
+        ensures calls { self.new.calls.items ≡ noted self.old.calls.items call }
+        ensures count { array_vec_len self.new.calls ≡ counted (array_vec_len self.old.calls) }
     {
-        if !self.record.is_full() {
-            self.record.push(opened);
+        if !self.calls.is_full() {
+            self.calls.push(call);
         }
     }
 }
 
+// A call that is taken below is noted, and a refused one is not.
 impl<S: Slave> Slave for Recorder<S> {
-    ghost meaning = { λ p. S.Slave.meaning p.below };
+    ghost meaning = { λ p. S.meaning p.below };
 
-    ghost sound = { λ x. S.Slave.sound x.below };
+    ghost sound = { λ x. S.sound x.below };
 
     fn live(&self) -> bool {
         self.below.live()
@@ -46,34 +47,43 @@ impl<S: Slave> Slave for Recorder<S> {
         self.below.place(channel)
     }
 
-    // A burst that is taken below is noted.
     fn open(&mut self, channel: Channel, burst: RawBurst) -> Result<(), SlaveFault>
-        ensures answer { result ≡ open_answer (S.Slave.meaning self.old.below) channel burst }
-        ensures after { S.Slave.meaning self.new.below ≡ open_after (S.Slave.meaning self.old.below) channel burst }
-        ensures record { self.new.record.items ≡ on_ok result self.old.record.items (λ _. noted self.old.record.items (record { channel = channel; burst = burst })) }
-        ensures count { array_vec_len self.new.record ≡ on_ok result (array_vec_len self.old.record) (λ _. counted (array_vec_len self.old.record)) }
+        ensures answer { result ≡ open_answer (S.meaning self.old.below) channel burst }
+        ensures after { S.meaning self.new.below
+            ≡ open_after (S.meaning self.old.below) channel burst }
+        ensures calls { self.new.calls.items
+            ≡ noted_on result self.old.calls.items (Call.Open channel burst) }
+        ensures count { array_vec_len self.new.calls ≡ counted_on result (array_vec_len self.old.calls) }
         ensures refused { is_ok result ≡ false → self.new ≡ self.old }
     {
         self.below.open(channel, burst)?;
-        self.note(Opened { channel, burst });
+        self.note(Call::Open(channel, burst));
         Ok(())
     }
 
     fn give(&mut self, word: u64, strobe: u8) -> Result<Given, SlaveFault>
-        ensures answer { result ≡ give_answer (S.Slave.meaning self.old.below) word strobe }
-        ensures after { S.Slave.meaning self.new.below ≡ give_after (S.Slave.meaning self.old.below) word strobe }
-        ensures record { self.new.record ≡ self.old.record }
+        ensures answer { result ≡ give_answer (S.meaning self.old.below) word strobe }
+        ensures after { S.meaning self.new.below
+            ≡ give_after (S.meaning self.old.below) word strobe }
+        ensures calls { self.new.calls.items
+            ≡ noted_on result self.old.calls.items (Call.Give word strobe) }
+        ensures count { array_vec_len self.new.calls ≡ counted_on result (array_vec_len self.old.calls) }
         ensures refused { is_ok result ≡ false → self.new ≡ self.old }
     {
-        self.below.give(word, strobe)
+        let given = self.below.give(word, strobe)?;
+        self.note(Call::Give { word, strobe });
+        Ok(given)
     }
 
     fn take(&mut self) -> Result<(u64, Response, u16), SlaveFault>
-        ensures answer { result ≡ take_answer (S.Slave.meaning self.old.below) }
-        ensures after { S.Slave.meaning self.new.below ≡ take_after (S.Slave.meaning self.old.below) }
-        ensures record { self.new.record ≡ self.old.record }
+        ensures answer { result ≡ take_answer (S.meaning self.old.below) }
+        ensures after { S.meaning self.new.below ≡ take_after (S.meaning self.old.below) }
+        ensures calls { self.new.calls.items ≡ noted_on result self.old.calls.items Call.Take }
+        ensures count { array_vec_len self.new.calls ≡ counted_on result (array_vec_len self.old.calls) }
         ensures refused { is_ok result ≡ false → self.new ≡ self.old }
     {
-        self.below.take()
+        let taken = self.below.take()?;
+        self.note(Call::Take);
+        Ok(taken)
     }
 }

@@ -1,7 +1,7 @@
-// A slave that passes every call down and records the bursts opened on it.
+// A slave that passes every call down and records those that the slave below takes.
 #![tactic(auto)]
 
 mod calls;
 mod record;
 
-pub use record::{Opened, Recorder};
+pub use record::{Call, Recorder};

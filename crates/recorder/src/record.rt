@@ -1,4 +1,4 @@
-// The record of the bursts opened on a slave.
+// The record of the calls that a slave took.
 ghost use Rattle.arrayvec.specs.ArrayVec.{array_vec_len};
 ghost use Rattle.recorder.specs.Record.{empty, recorded};
 ghost use Rattle.std.specs.Prelude.{◌≡◌, []};
@@ -7,61 +7,74 @@ use arrayvec::ArrayVec;
 use burst::RawBurst;
 use slave::Channel;
 
-// A burst that a slave took.
-#[derive(Clone, Copy)]
-pub struct Opened {
-    pub channel: Channel,
-    pub burst: RawBurst,
+/// A call that reached a slave and was taken there.
+#[derive(Clone, Copy, PartialEq, Eq)]
+pub enum Call {
+    Open(Channel, RawBurst),
+    Give { word: u64, strobe: u8 },
+    Take,
 }
 
-// A slot that is not filled. By hand: a derive would want a default of a channel and of a raw burst, and there is none that
-// another crate should meet.
-impl Default for Opened {
+// A slot that is not filled. By hand: nobody but the array of slots is to ask for a call of no slave.
+impl Default for Call {
     ghost is_default = { λ x. x ≡ empty };
 
-    fn default() -> Opened {
-        Opened {
-            channel: Channel::Write,
-            burst: RawBurst {
-                kind: 0,
-                start: 0,
-                size: 0,
-                count: 0,
-            },
-        }
+    fn default() -> Call {
+        Call::Take
     }
 }
 
-// A slave with a record of the bursts that it took: of the first 256, and later ones are passed down and not noted.
+/// A slave with a record of the calls that it took, in order: of the first 1,024. Later ones are passed down and not noted.
 #[derive(Drop)]
 pub struct Recorder<S> {
-    pub below: S,
-    pub(crate) record: ArrayVec<Opened, 256>,
+    pub(crate) below: S,
+    pub(crate) calls: ArrayVec<Call, 1024>,
 }
 
 impl<S> Recorder<S> {
-    // A slave with nothing recorded yet.
+    /// A slave with nothing recorded yet.
     pub fn new(below: S) -> Recorder<S>
         ensures same { result.below ≡ below }
-        ensures none { result.record.items ≡ [] }
+        ensures none { result.calls.items ≡ [] }
     {
         Recorder {
             below,
-            record: ArrayVec::new(),
+            calls: ArrayVec::new(),
         }
     }
 
-    // How many bursts are recorded.
-    pub fn count(&self) -> usize
-        ensures { result ≡ array_vec_len self.now.record }
+    /// The slave that the calls are passed to.
+    pub fn below(&self) -> &S
+        ensures { result.now ≡ self.now.below }
     {
-        self.record.len()
+        &self.below
     }
 
-    // The i-th burst recorded, from 0; none from the length on.
-    pub fn opened(&self, i: usize) -> Option<Opened>
-        ensures { result ≡ recorded self.now.record.items i }
+    /// That slave itself, without the record.
+    pub fn into_below(self) -> S
+        ensures { result ≡ self.below }
     {
-        self.record.get(i).copied()
+        self.below
+    }
+
+    /// The calls that are recorded.
+    pub fn calls(&self) -> &[Call]
+        ensures { result.now ≡ self.now.calls.items }
+    {
+        self.calls.as_slice()
+    }
+
+    /// How many calls are recorded.
+    pub fn count(&self) -> usize
+        ensures { result ≡ array_vec_len self.now.calls }
+    {
+        self.calls.len()
+    }
+
+    /// The i-th call recorded, from 0; none from the count on.
+    pub fn get(&self, i: usize) -> Option<Call>
+        ensures { result ≡ recorded self.now.calls.items i }
+    {
+        self.calls.get(i).copied()
     }
 }

@@ -1,0 +1,3 @@
+-- What is moved over a pile, and how piles are nested.
+pub mod Beats
+pub mod Nested

@@ -1,0 +1,2 @@
+-- The memory below a pile.
+pub mod Filled

@@ -1,0 +1,2 @@
+pub mod Beats
+pub mod Happening
