@@ -1,9 +1,10 @@
 // Piles of adapters of one kind over memory.
-ghost use Rattle.converter.specs.Converters.{converter_shows};
+ghost use Rattle.converter.specs.Shows.{converter_shows};
 ghost use Rattle.depths.specs.Nested.{over, splitter_made, converter_made, made_by};
-ghost use Rattle.register.specs.Holds.{slice_made, shows as slice_shows};
+ghost use Rattle.register.specs.Making.{slice_made};
+ghost use Rattle.register.specs.Shows.{shows as slice_shows};
 ghost use Rattle.slave.specs.Making.{made};
-ghost use Rattle.splitter.specs.Splits.{shows as splitter_shows};
+ghost use Rattle.splitter.specs.Shows.{shows as splitter_shows};
 ghost use Rattle.std.specs.Prelude.{◌≡◌};
 
 use crate::adapter::Adapter;
