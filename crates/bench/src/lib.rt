@@ -1,15 +1,15 @@
 // The bench: runs a script over the pile and writes its report.
 #![tactic(auto)]
 
-mod example;
 mod fault;
+mod laws;
 mod making;
 mod records;
 mod runs;
 mod sink;
 
-pub use example::whole_case_stands;
 pub use fault::{BenchFault, CallFault};
+pub use laws::whole_case_stands;
 pub use making::{MEMORY_BYTES, Pile, pile};
 pub use records::REPORT_BYTES;
 pub use runs::run;

@@ -4,6 +4,7 @@ ghost use Rattle.burst.specs.Rules.{width_bytes};
 ghost use Rattle.converter.specs.Laws.{PiecesLie};
 ghost use Rattle.converter.specs.Pieces.{code_of, piece_end};
 
+use crate::laws;
 use burst::Width;
 
 // The size code of a beat that fills a bus of this width.
@@ -20,17 +21,12 @@ pub(crate) fn piece_code(size: u8, width: Width) -> u8
     size.min(size_code(width))
 }
 
-// Stands for what holds of the pieces: its contract has it, and it does nothing.
-fn pieces_lie()
-    ensures { PiecesLie }
-{}
-
 // The last byte of the piece that begins at this address, of a beat that ends with `last`, over a bus of this width.
 pub fn piece_end(address: u32, last: u32, width: Width) -> u32
     ensures value { result ≡ piece_end (width_bytes width) last address }
     ensures law { PiecesLie }
 {
-    pieces_lie();
+    laws::pieces_lie();
     let end = width.word_start(address) + (width.bytes() - 1);
     end.min(last)
 }

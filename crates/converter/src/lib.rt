@@ -6,9 +6,11 @@ mod calls;
 mod converter;
 mod cut;
 mod lanes;
+mod laws;
 mod making;
 mod pieces;
 
 pub use converter::Converter;
 pub use cut::piece_end;
+pub use laws::pieces_lie;
 pub use making::check;

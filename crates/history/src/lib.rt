@@ -1,8 +1,8 @@
 // Runs of a fabric over a slave, and the law over whole runs.
 #![tactic(auto)]
 
-mod example;
+mod laws;
 mod runs;
 
-pub use example::example_stands;
+pub use laws::example_stands;
 pub use runs::{RunFault, act, begin, run};

@@ -5,6 +5,7 @@ use Rattle.std.proofs.Common.{add-zero, zero-add, sym, ◌∙◌, subst}
 use Rattle.std.proofs.Math.Path.{ap}
 use Rattle.std.proofs.Math.Logic.{⊎_elim}
 use Rattle.std.proofs.lemmas.Bool.{cases_lt, lt-ltb, le-ltb}
+use Rattle.burst.specs.declared.cover.Cover.{Cover}
 use Rattle.burst.specs.declared.raw.RawBurst.{RawBurst}
 use Rattle.burst.specs.Beats.{IsLawful, address_of, cover_of}
 use Rattle.slave.proofs.Calls.{short_incr, open_taken}
@@ -108,7 +109,8 @@ run_stands M b j law some left = record {
   few = run_short M b j law some left;
   lawful = run_lawful M b j law some left;
   has = run_has M b j law some left;
-  same = run_cover M b j law some left;
+  first = ap (λ (c : Cover). c.first) (run_cover M b j law some left);
+  last = ap (λ (c : Cover). c.last) (run_cover M b j law some left);
   taken = λ m ch live free fit most. (open_taken m ch (run_of M b j) live free (run_lawful M b j law some left m.width fit)
       (short_incr m.full m.most (run_of M b j) (incr_is M b j) (omega (arith, run_short M b j law some left)))).0;
 }

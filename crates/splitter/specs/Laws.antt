@@ -1,7 +1,7 @@
 -- What holds of the runs of every lawful burst, and one split worked out.
 use Rattle.std.specs.Prelude.{◌≡◌, ℕ, ◌<◌, ◌≤◌, true, [], ◌∷◌, Ok}
 use Rattle.burst.specs.declared.raw.RawBurst.{RawBurst}
-use Rattle.burst.specs.Beats.{IsLawful, cover_of, incr_burst}
+use Rattle.burst.specs.Beats.{IsLawful, address_of, last_of, incr_burst}
 use Rattle.burst.specs.Edges.{burst}
 use Rattle.slave.specs.declared.channels.Channel.{Channel}
 use Rattle.slave.specs.Meaning.{Meaning, idle, stand_at}
@@ -18,7 +18,8 @@ pub record RunStands (M : ℕ) (b : RawBurst) (j : ℕ) : Type 0 where
   pub lawful : (w : ℕ) → IsLawful w b → IsLawful w (run_of M b j)
   -- beat j is a beat of it, and covers the same bytes there
   pub has : beat_in M b j < (run_of M b j).count
-  pub same : cover_of (run_of M b j) (beat_in M b j) ≡ cover_of b j
+  pub first : address_of (run_of M b j) (beat_in M b j) ≡ address_of b j
+  pub last : last_of (run_of M b j) (beat_in M b j) ≡ last_of b j
   -- no live slave that takes M beats at once refuses it at an idle channel
   pub taken : (m : Meaning) (ch : Channel) → m.live ≡ true → stand_at m ch ≡ idle → IsLawful m.width b → M ≤ m.most
       → open_answer m ch (run_of M b j) ≡ Ok tt
