@@ -1,5 +1,5 @@
 -- The bytes of a report line.
-use Rattle.std.specs.Prelude.{ℕ, zero, suc, ◌/◌, ◌%◌, true, cond, if◌then◌else◌, List, [], ◌∷◌, ◌++◌, length, drop, codes, decimal, Ok, Err, ◌==◌, nat_le}
+use Rattle.std.specs.Prelude.{ℕ, zero, suc, ◌/◌, ◌%◌, true, if◌then◌else◌, List, [], ◌∷◌, ◌++◌, length, drop, codes, decimal, Ok, Err, ◌==◌, nat_le}
 use Rattle.std.specs.Fmt.{digit_glyph}
 use Rattle.slave.specs.declared.response.Response.{Response}
 use Rattle.slave.specs.declared.response.Response.TheVariants.{Okay, SlvErr, DecErr}
@@ -36,7 +36,7 @@ source master id = decimal master ++ (32 ∷ hex2 id)
 
 -- LAST behind a read beat after which none is left
 abbrev pub last_word : ℕ → List ℕ
-last_word left = cond (left == 0) (codes " LAST") []
+last_word left = if left == 0 then codes " LAST" else []
 
 -- the words of an answer
 abbrev pub answer_words : Answer → List ℕ
