@@ -9,7 +9,6 @@ use Rattle.fabric.specs.declared.types.Act.{Act}
 use Rattle.fabric.specs.declared.types.Answer.{Answer}
 use Rattle.fabric.specs.Channels.{Channels}
 use Rattle.history.specs.History.{History}
-
 use Rattle.history.specs.Tracks.{Tracks}
 use Rattle.history.proofs.Whole.{runs_hold}
 use Rattle.report.specs.declared.line.TheConstants.{LINE_BYTES}

@@ -7,7 +7,6 @@ use Rattle.fabric.specs.declared.types.FabricFault.{FabricFault}
 use Rattle.fabric.specs.Numbers.{fabric_number}
 use Rattle.fabric.specs.Channels.{Channels}
 use Rattle.history.specs.History.{History}
-
 use Rattle.history.specs.Owed.{owed}
 use Rattle.history.specs.Tracks.{act_answer, act_after, act_slave}
 use Rattle.report.specs.declared.told.Layer.TheVariants.{Bench}

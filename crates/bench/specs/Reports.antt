@@ -5,7 +5,6 @@ use Rattle.fabric.specs.declared.types.Act.{Act}
 use Rattle.fabric.specs.declared.types.Answer.{Answer}
 use Rattle.fabric.specs.Channels.{Channels}
 use Rattle.history.specs.History.{History}
-
 use Rattle.history.specs.Law.{Holds}
 use Rattle.history.specs.Tracks.{Tracks}
 use Rattle.script.specs.declared.fault.ScriptFault.{ScriptFault}

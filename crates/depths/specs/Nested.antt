@@ -14,19 +14,23 @@ name_of Slice = codes "slice"
 name_of Splitter = codes "splitter"
 name_of Converter = codes "converter"
 
+-- what a slice that is made over a slave shows
+unfoldable pub slice_over : Meaning → Meaning
+slice_over m = slice_made m
+
 -- what a splitter in runs of 8 that is made over a slave shows
-unfoldable pub splitter_made : Meaning → Meaning
-splitter_made m = made_as (make_answer 8 m) m
+unfoldable pub splitter_over : Meaning → Meaning
+splitter_over m = made_as (make_answer 8 m) m
 
 -- what a converter of width 8 that is made over a slave shows
-unfoldable pub converter_made : Meaning → Meaning
-converter_made m = converted_made m 8
+unfoldable pub converter_over : Meaning → Meaning
+converter_over m = converted_made m 8
 
 -- what an adapter that is made over a slave shows
 abbrev pub made_by : Adapter → Meaning → Meaning
-made_by Slice = slice_made
-made_by Splitter = splitter_made
-made_by Converter = converter_made
+made_by Slice = slice_over
+made_by Splitter = splitter_over
+made_by Converter = converter_over
 
 -- what a pile of n makings shows, by what one shows over a slave
 unfoldable pub nested : (Meaning → Meaning) → ℕ → Meaning → Meaning

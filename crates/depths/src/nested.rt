@@ -1,7 +1,6 @@
 // Piles of adapters of one kind over memory.
 ghost use Rattle.converter.specs.Shows.{converter_shows};
-ghost use Rattle.depths.specs.Nested.{over, splitter_made, converter_made, made_by};
-ghost use Rattle.register.specs.Making.{slice_made};
+ghost use Rattle.depths.specs.Nested.{over, slice_over, splitter_over, converter_over, made_by};
 ghost use Rattle.register.specs.Shows.{shows as slice_shows};
 ghost use Rattle.slave.specs.Making.{made};
 ghost use Rattle.splitter.specs.Shows.{shows as splitter_shows};
@@ -21,24 +20,25 @@ const NUMBER: u16 = 8;
 const BUS: u8 = 8;
 
 // A register slice over a slave.
+#[tactic(auto, unfolding(crate::specs::Nested::slice_over))]
 fn slice<S: Slave + Drop>(below: S) -> Made<RegisterSlice<S>>
-    ensures { made (slice_shows S.meaning) result ≡ slice_made (S.meaning below) }
+    ensures { made (slice_shows S.meaning) result ≡ slice_over (S.meaning below) }
 {
     RegisterSlice::new(below)
 }
 
 // A splitter over a slave.
-#[tactic(auto, unfolding(crate::specs::Nested::splitter_made))]
+#[tactic(auto, unfolding(crate::specs::Nested::splitter_over))]
 fn splitter<S: Slave + Drop>(below: S) -> Made<Splitter<S>>
-    ensures { made (splitter_shows S.meaning) result ≡ splitter_made (S.meaning below) }
+    ensures { made (splitter_shows S.meaning) result ≡ splitter_over (S.meaning below) }
 {
     Splitter::new(below, NUMBER)
 }
 
 // A converter over a slave.
-#[tactic(auto, unfolding(crate::specs::Nested::converter_made))]
+#[tactic(auto, unfolding(crate::specs::Nested::converter_over))]
 fn converter<S: Slave + Drop>(below: S) -> Made<Converter<S>>
-    ensures { made (converter_shows S.meaning) result ≡ converter_made (S.meaning below) }
+    ensures { made (converter_shows S.meaning) result ≡ converter_over (S.meaning below) }
 {
     Converter::new(below, BUS)
 }
@@ -69,7 +69,7 @@ macro_rules! over_three {
 // Over up to two register slices.
 #[tactic(auto, using(crate::proofs::Nests::nested_none, crate::proofs::Nests::nested_one, crate::proofs::Nests::nested_two))]
 fn over_two_slices<S: Slave + Drop>(below: S, depth: u8) -> Option<u16>
-    ensures { result ≡ over 2 slice_made depth (S.meaning below) }
+    ensures { result ≡ over 2 slice_over depth (S.meaning below) }
 {
     over_two!(slice, below, depth)
 }
@@ -77,7 +77,7 @@ fn over_two_slices<S: Slave + Drop>(below: S, depth: u8) -> Option<u16>
 // Over up to five.
 #[tactic(auto, using(crate::proofs::Nests::nested_three))]
 fn over_five_slices<S: Slave + Drop>(below: S, depth: u8) -> Option<u16>
-    ensures { result ≡ over 5 slice_made depth (S.meaning below) }
+    ensures { result ≡ over 5 slice_over depth (S.meaning below) }
 {
     over_three!(slice, over_two_slices, below, depth)
 }
@@ -85,7 +85,7 @@ fn over_five_slices<S: Slave + Drop>(below: S, depth: u8) -> Option<u16>
 // Over up to eight.
 #[tactic(auto, using(crate::proofs::Nests::nested_three))]
 fn over_slices<S: Slave + Drop>(below: S, depth: u8) -> Option<u16>
-    ensures { result ≡ over 8 slice_made depth (S.meaning below) }
+    ensures { result ≡ over 8 slice_over depth (S.meaning below) }
 {
     over_three!(slice, over_five_slices, below, depth)
 }
@@ -93,7 +93,7 @@ fn over_slices<S: Slave + Drop>(below: S, depth: u8) -> Option<u16>
 // Over up to two splitters.
 #[tactic(auto, using(crate::proofs::Nests::nested_none, crate::proofs::Nests::nested_one, crate::proofs::Nests::nested_two))]
 fn over_two_splitters<S: Slave + Drop>(below: S, depth: u8) -> Option<u16>
-    ensures { result ≡ over 2 splitter_made depth (S.meaning below) }
+    ensures { result ≡ over 2 splitter_over depth (S.meaning below) }
 {
     over_two!(splitter, below, depth)
 }
@@ -101,7 +101,7 @@ fn over_two_splitters<S: Slave + Drop>(below: S, depth: u8) -> Option<u16>
 // Over up to five.
 #[tactic(auto, using(crate::proofs::Nests::nested_three))]
 fn over_five_splitters<S: Slave + Drop>(below: S, depth: u8) -> Option<u16>
-    ensures { result ≡ over 5 splitter_made depth (S.meaning below) }
+    ensures { result ≡ over 5 splitter_over depth (S.meaning below) }
 {
     over_three!(splitter, over_two_splitters, below, depth)
 }
@@ -109,7 +109,7 @@ fn over_five_splitters<S: Slave + Drop>(below: S, depth: u8) -> Option<u16>
 // Over up to eight.
 #[tactic(auto, using(crate::proofs::Nests::nested_three))]
 fn over_splitters<S: Slave + Drop>(below: S, depth: u8) -> Option<u16>
-    ensures { result ≡ over 8 splitter_made depth (S.meaning below) }
+    ensures { result ≡ over 8 splitter_over depth (S.meaning below) }
 {
     over_three!(splitter, over_five_splitters, below, depth)
 }
@@ -117,7 +117,7 @@ fn over_splitters<S: Slave + Drop>(below: S, depth: u8) -> Option<u16>
 // Over up to two converters.
 #[tactic(auto, using(crate::proofs::Nests::nested_none, crate::proofs::Nests::nested_one, crate::proofs::Nests::nested_two))]
 fn over_two_converters<S: Slave + Drop>(below: S, depth: u8) -> Option<u16>
-    ensures { result ≡ over 2 converter_made depth (S.meaning below) }
+    ensures { result ≡ over 2 converter_over depth (S.meaning below) }
 {
     over_two!(converter, below, depth)
 }
@@ -125,7 +125,7 @@ fn over_two_converters<S: Slave + Drop>(below: S, depth: u8) -> Option<u16>
 // Over up to five.
 #[tactic(auto, using(crate::proofs::Nests::nested_three))]
 fn over_five_converters<S: Slave + Drop>(below: S, depth: u8) -> Option<u16>
-    ensures { result ≡ over 5 converter_made depth (S.meaning below) }
+    ensures { result ≡ over 5 converter_over depth (S.meaning below) }
 {
     over_three!(converter, over_two_converters, below, depth)
 }
@@ -133,7 +133,7 @@ fn over_five_converters<S: Slave + Drop>(below: S, depth: u8) -> Option<u16>
 // Over up to eight.
 #[tactic(auto, using(crate::proofs::Nests::nested_three))]
 fn over_converters<S: Slave + Drop>(below: S, depth: u8) -> Option<u16>
-    ensures { result ≡ over 8 converter_made depth (S.meaning below) }
+    ensures { result ≡ over 8 converter_over depth (S.meaning below) }
 {
     over_three!(converter, over_five_converters, below, depth)
 }

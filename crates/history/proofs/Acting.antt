@@ -8,7 +8,6 @@ use Rattle.slave.specs.Meaning.{Meaning, Board}
 use Rattle.fabric.specs.Channels.{Channels}
 use Rattle.history.specs.Tracks.{act_answer, act_after, act_slave}
 use Rattle.history.specs.History.{History}
-
 use Rattle.history.specs.Owed.{owed, Run}
 use Rattle.history.specs.Tracks.{Tracks, GoesOn}
 use Rattle.history.proofs.Whole.{runs_hold}

@@ -25,7 +25,6 @@ use Rattle.fabric.specs.Picking.{choice}
 use Rattle.fabric.specs.Acts.{passed, grant_row, grant_test, request_at, grant_answer, grant_after, grant_slave}
 use Rattle.fabric.proofs.Rule.{choice_picks}
 use Rattle.history.specs.History.{Event, History, tally, same, granting, blocked, candidates, rank, best, pick, requests, Filed, age, waiting, own, Going, current, opened}
-
 use Rattle.history.specs.Owed.{owed, owed_grant, Run}
 use Rattle.history.proofs.Responses.{worst_grant}
 use Rattle.history.proofs.Filing.{all_mem, without}

@@ -11,7 +11,6 @@ use Rattle.slave.specs.Meaning.{Meaning, stand_at, Board}
 use Rattle.fabric.specs.Channels.{Channels}
 use Rattle.history.specs.Tracks.{stand_of, channels_after, slave_after, act_answer, act_after, act_slave}
 use Rattle.history.specs.History.{History}
-
 use Rattle.history.specs.Owed.{owed}
 use Rattle.history.proofs.Quiet.{event, channels_refused, slave_refused}
 use Rattle.history.proofs.Asking.{request_owed, request_leaves, request_slave}
