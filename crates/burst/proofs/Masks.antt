@@ -1,5 +1,5 @@
 -- Bits of masks: folds over lanes, and the lanes that a beat uses.
-use Rattle.std.proofs.Common.{◌≡◌, ℕ, zero, suc, ◌+◌, ◌-◌, ◌*◌, ◌/◌, ◌%◌, ◌^◌, ◌<◌, ◌≤◌, Bool, true, false, cond, ◌&&◌, ◌||◌, eqb, leb, sym, refl, ap, ◌∙◌, subst, ⊎_elim, add-one, arith, pow_mono}
+use Rattle.std.proofs.Common.{◌≡◌, ℕ, zero, suc, ◌+◌, ◌-◌, ◌*◌, ◌/◌, ◌%◌, ◌^◌, ◌<◌, ◌≤◌, Bool, true, false, cond, ◌&&◌, ◌||◌, eqb, leb, sym, refl, ap, ◌∙◌, subst, ⊎_elim, add-one, arith, pow_mono, ltb, add-mul}
 use native.Mathlib.Nat.{div-eq_of_lt}
 use Rattle.std.proofs.lemmas.Nat.{pow-add, mod_below, mod-mul-add, div-add-mod'}
 use Rattle.std.proofs.lemmas.Bool.{or_from, or_parts, and_parts, cases_lt, cases_eq, cases_Bool, leb-true, eqb-true, true≢false}
@@ -169,3 +169,69 @@ any_found p true (k, l, at) =
     sym (has_below p 8 k kl (subst (λ x. x < 8 → p x ≡ true) (get_or-range_with_len 0 8 k 0 kl ∙ (let z : 0 + k ≡ k = omega arith in z)) (at 0) kl))
 any_found p false none =
     sym (no_lane p 8 (λ i il. subst (λ x. x < 8 → p x ≡ false) (get_or-range_with_len 0 8 i 0 il ∙ (let z : 0 + i ≡ i = omega arith in z)) (none i 0 (omega arith) (subst (λ n. i < n) (sym (length-range_with_len 0 8)) il)) il))
+
+-- the first address from f on whose byte travels in lane i of a bus of w bytes: how far it is, and that none before it does
+module _ (w f i : ℕ) (pos : 0 < w) (lane : i < w) where
+  abbrev q : ℕ
+  q = f / w
+
+  abbrev r : ℕ
+  r = f % w
+
+  split : q * w + r ≡ f
+  split = div-add-mod' f w
+
+  below_w : r < w
+  below_w = mod_below f w pos
+
+  abbrev ahead : ℕ
+  ahead = (i + w - r) % w
+
+  ahead_low : r ≤ i → ahead ≡ i - r
+  ahead_low h = ap (λ x. x % w) (let z : i + w - r ≡ 1 * w + (i - r) = omega arith in z) ∙ mod-mul-add 1 w (i - r) (omega arith)
+
+  ahead_high : i < r → ahead ≡ i + w - r
+  ahead_high h = let b = below_w in ap (λ x. x % w) (let z : i + w - r ≡ 0 * w + (i + w - r) = omega arith in z) ∙ mod-mul-add 0 w (i + w - r) (omega arith)
+
+  -- the lane of the byte at f + k, by where r + k lies
+  lane_low : (k : ℕ) → r + k < w → (f + k) % w ≡ r + k
+  lane_low k h = ap (λ x. x % w) (let z : f + k ≡ q * w + (r + k) = omega (arith, split) in z) ∙ mod-mul-add q w (r + k) h
+
+  lane_high : (k : ℕ) → w ≤ r + k → r + k - w < w → (f + k) % w ≡ r + k - w
+  lane_high k h l = ap (λ x. x % w) (let z : f + k ≡ (q + 1) * w + (r + k - w) = omega (arith, split, add-mul q 1 w) in z) ∙ mod-mul-add (q + 1) w (r + k - w) l
+
+  pub ahead_short : ahead < w
+  ahead_short = mod_below (i + w - r) w pos
+
+  pub ahead_there : (f + ahead) % w ≡ i
+  ahead_there =
+      ⊎_elim
+      (λ h. let d = ahead_high h in let b = below_w in lane_high ahead (omega arith) (omega arith) ∙ (let z : r + ahead - w ≡ i = omega arith in z))
+      (λ h. let d = ahead_low h in lane_low ahead (omega arith) ∙ (let z : r + ahead ≡ i = omega arith in z))
+      (cases_lt i r)
+
+  pub none_nearer : (k : ℕ) → k < ahead → (f + k) % w ≡ i → ⊥
+  none_nearer k h e =
+      ⊎_elim
+      (λ l. let d = ahead_high l in let b = below_w in
+      ⊎_elim (λ u. let z = lane_low k u in omega arith) (λ u. let z = lane_high k u (omega arith) in omega arith) (cases_lt (r + k) w))
+      (λ l. let d = ahead_low l in let z = lane_low k (omega arith) in omega arith)
+      (cases_lt i r)
+
+-- a lane of the bus is used exactly if that address is covered
+pub first_use : (w f l i : ℕ) → 0 < w → w ≤ 8 → (ltb i w && leb (f + (i + w - f % w) % w) l) ≡ lane_used w f l i
+first_use w f l i pos small =
+    ⊎_elim
+    (λ lt. let d : ℕ = (i + w - f % w) % w in
+    let short = ahead_short w f i pos lt in
+    let there = ahead_there w f i pos lt in
+    ⊎_elim
+    (λ past. (let z : (ltb i w && leb (f + d) l) ≡ false = grind (arith, nat_tests) in z)
+    ∙ sym (no_lane (travelling w f l i) 8 (λ k k8.
+    ⊎_elim (λ near. let other = none_nearer w f i pos lt k near in grind (arith, nat_tests)) (λ far. grind (arith, nat_tests)) (cases_lt k d))))
+    (λ within. (let z : (ltb i w && leb (f + d) l) ≡ true = grind (arith, nat_tests) in z)
+    ∙ sym (has_below (travelling w f l i) 8 d (omega arith) (grind (arith, nat_tests))))
+    (cases_lt l (f + d)))
+    (λ ge. (let z : (ltb i w && leb (f + (i + w - f % w) % w) l) ≡ false = grind (arith, nat_tests) in z)
+    ∙ sym (no_lane (travelling w f l i) 8 (λ k k8. let b = mod_below (f + k) w pos in grind (arith, nat_tests))))
+    (cases_lt i w)

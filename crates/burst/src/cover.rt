@@ -21,17 +21,14 @@ impl Cover {
         u64::from(self.first) <= address && address <= u64::from(self.last)
     }
 
-    // Whether one of the bytes, which are eight at most, travels in this lane of a bus.
+    // Whether one of the bytes, which are eight at most, travels in this lane of a bus: the first one that could.
     fn uses(self, width: Width, lane: u8) -> bool
         ensures { result ≡ lane_used (width_bytes width) self.first self.last lane }
     {
-        let first = u64::from(self.first);
-        let last = u64::from(self.last);
-        let bus = u64::from(width.bytes());
-        lanes::any_lane(|k| {
-            let address = first + u64::from(k);
-            address <= last && address % bus == u64::from(lane)
-        })
+        let bus = width.bytes();
+        let lane = u32::from(lane);
+        let ahead = (lane + bus - self.first % bus) % bus;
+        lane < bus && u64::from(self.first) + u64::from(ahead) <= u64::from(self.last)
     }
 
     // The lanes that the bytes use on a bus, a bit for each.
