@@ -1,32 +1,27 @@
 -- What a store of a beat's lanes and a making come to.
-use Rattle.std.specs.Prelude.{◌≡◌, ℕ, ◌*◌, ◌/◌, ◌%◌, ◌≤◌, true, false, cond, List, length, vec_items, slice_index}
+use Rattle.std.specs.Prelude.{◌≡◌, ℕ, ◌*◌, ◌/◌, ◌≤◌, false, List, length}
 use Rattle.std.specs.declared.vec.Vec.{Vec}
 use Rattle.std.specs.Vec.{with_items}
 use Rattle.std.proofs.Props.{props}
 use mathlib.Core.HLevel.{is_prop→PathP}
 use Rattle.std.proofs.lemmas.List.{with_items_is}
 use Rattle.std.proofs.Common.{take, drop, ◌++◌}
-use Rattle.std.proofs.Common.{arith, sym, ◌∙◌, ap, ⊎_elim}
+use Rattle.std.proofs.Common.{sym, ◌∙◌, ap}
 use Rattle.std.proofs.Math.Path.{fun_ext}
-use Rattle.std.proofs.lemmas.Bool.{true≢false, lt-ltb, cases_lt}
-use Rattle.std.proofs.lemmas.List.{get_or_past}
-use Rattle.std.proofs.lemmas.Nat.{mod_below}
 use Rattle.burst.specs.declared.raw.RawBurst.{RawBurst}
 use Rattle.burst.specs.declared.width.Width.{Width}
 use Rattle.burst.specs.Rules.{width_bytes}
 use Rattle.burst.specs.Beats.{IsLawful, address_of, last_of, cover_of}
-use Rattle.burst.proofs.Facts.{beat_in_word, width_power}
+use Rattle.burst.proofs.Facts.{beat_in_word}
 use Rattle.slave.specs.declared.response.Response.{Response}
 use Rattle.slave.specs.declared.response.Response.TheVariants.{Okay}
 use Rattle.slave.specs.Channels.{worst_at}
-use Rattle.slave.specs.Meaning.{plain, unmapped, Stand, idle, busy, told, sound_stand, Sound, is_there, with_write}
+use Rattle.slave.specs.Meaning.{Stand, idle, busy, with_write}
 use Rattle.slave.specs.Lanes.{stray, written}
-use Rattle.slave.proofs.Soundness.{quiet_at}
 use Rattle.ram.specs.declared.port.Port.{Port}
-use Rattle.ram.specs.declared.ram.Ram.{Ram}
-use Rattle.ram.specs.Memory.{put_lanes, kind_at, memory_board}
+use Rattle.ram.specs.Memory.{put_lanes, memory_board}
 use Rattle.ram.specs.Making.{make_refusal}
-use Rattle.ram.specs.Shows.{shows, through, ram_meaning, ram_made}
+use Rattle.ram.specs.Shows.{shows, through, ram_made}
 use Rattle.ram.proofs.Stores.{put_written, length_put, kind_same}
 
 -- memory after a beat's lanes are stored, with the write channel standing elsewhere

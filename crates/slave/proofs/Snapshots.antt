@@ -1,5 +1,5 @@
 -- What kept answers say of a slave, and that they follow it.
-use Rattle.std.proofs.Common.{◌≡◌, Bool, true, false, ◌&&◌, ℕ, Option, Ok, Err, Result, eqb, refl, sym, ap, ◌∙◌, subst}
+use Rattle.std.proofs.Common.{◌≡◌, Bool, true, false, ◌&&◌, ℕ, Option, Ok, Err, Result, eqb, refl, sym, ◌∙◌, subst}
 use Rattle.std.specs.Bool.{beq}
 use Rattle.std.proofs.lemmas.Bool.{true≢false, and_parts, and_from, eqb-true, eq-eqb}
 use Rattle.burst.specs.Rules.{width_bytes}
@@ -8,7 +8,7 @@ use Rattle.slave.specs.declared.channels.Channel.TheVariants.{Write, Read}
 use Rattle.slave.specs.declared.open_burst.OpenBurst.{OpenBurst}
 use Rattle.slave.specs.declared.snapshot.Snapshot.{Snapshot}
 use Rattle.slave.specs.Channels.{other}
-use Rattle.slave.specs.Meaning.{Meaning, Stand, idle, busy, is_idle, stand_at, told, same_stand, with_read}
+use Rattle.slave.specs.Meaning.{Meaning, Stand, idle, busy, stand_at, told, same_stand, with_read}
 use Rattle.slave.specs.Snapshots.{answers_for, place_at, with_place}
 use Rattle.slave.specs.Acts.{give_after, take_after, open_after, open_answer, opened, beat_at, on_ok, past}
 use Rattle.slave.specs.declared.fault.SlaveFault.{SlaveFault}
