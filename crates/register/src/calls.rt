@@ -77,7 +77,6 @@ impl<S: Slave> Slave for RegisterSlice<S> {
             return Err(SlaveFault::NotOpen);
         };
         self.flush();
-        self.snapshot.read = at.next();
-        self.below.take()
+        self.take_beat(at)
     }
 }

@@ -4,7 +4,7 @@ ghost use Rattle.slave.specs.Snapshots.{answers_for};
 ghost use Rattle.std.specs.Prelude.{◌≡◌, true};
 
 use crate::held::Held;
-use slave::{Given, OpenBurst, Slave, SlaveFault, Snapshot};
+use slave::{Given, OpenBurst, Response, Slave, SlaveFault, Snapshot};
 
 // A slice over a slave. It shows what the slave below shows once the held beat is passed down.
 // Nobody else reaches the slave below: it is live, and takes the held beat. What the slice answers to questions it keeps,
@@ -19,8 +19,8 @@ pub struct RegisterSlice<S: Slave> {
 }
 
 impl<S: Slave> RegisterSlice<S> {
-    ghost use Rattle.register.specs.Shows.{shows, below_of, held_of, held_after, below_after};
-    ghost use Rattle.slave.specs.Acts.{give_answer, give_after};
+    ghost use Rattle.register.specs.Shows.{shows, below_of, held_of, held_after, below_after, held_taken};
+    ghost use Rattle.slave.specs.Acts.{give_answer, give_after, take_answer, take_after};
     ghost use Rattle.slave.specs.Meaning.{told};
     ghost use Rattle.std.specs.Prelude.{Some, None, false, is_ok};
 
@@ -43,12 +43,28 @@ impl<S: Slave> RegisterSlice<S> {
     // Passes the held beat down, where it fits. That changes nothing that the slice shows.
     pub(crate) fn flush(&mut self)
         ensures same { S.meaning (below_of self.new) ≡ shows S.meaning self.old }
+        ensures shown { shows S.meaning self.new ≡ shows S.meaning self.old }
         ensures empty { held_of self.new ≡ None }
         ensures snapshot { self.new.snapshot ≡ self.old.snapshot }
     {
         if let Some(beat) = self.held.take() {
             let _ = self.below.give(beat.word, beat.strobe);
         }
+    }
+
+    // Takes the next read beat from below, where no write beat is held.
+    pub(crate) fn take_beat(&mut self, at: OpenBurst) -> Result<(u64, Response, u16), SlaveFault>
+        requires none { held_of self.old ≡ None }
+        requires open { self.old.snapshot.read ≡ Some at }
+        ensures answer { result ≡ take_answer (shows S.meaning self.old) }
+        ensures after { shows S.meaning self.new ≡ take_after (shows S.meaning self.old) }
+        ensures held { held_of self.new ≡ held_taken (held_of self.old) result }
+        ensures below { S.meaning (below_of self.new) ≡ take_after (S.meaning (below_of self.old)) }
+        ensures taken { is_ok result ≡ true }
+    {
+        let taken = self.below.take();
+        self.snapshot.read = at.next();
+        taken
     }
 
     // Takes a write beat of the open burst: the held beat goes down, and this one is held or, as the last, goes down too.

@@ -34,6 +34,15 @@ no_burst r = r.id == 0 && (r.qos == 0 && (r.kind == 0 && (r.size == 0 && (r.furt
 abbrev pub no_beat : Record → Bool
 no_beat r = r.last == 0 && (r.strobe == 0 && r.word == 0)
 
+-- nothing stands that the code does not use, and a last mark is 0 or 1
+abbrev pub fits_code : Code → Record → Bool
+fits_code RequestWrite r = no_beat r && r.zeros == 0
+fits_code RequestRead r = no_beat r && r.zeros == 0
+fits_code PutCode r = no_burst r && (r.zeros == 0 && nat_le r.last 1)
+fits_code GrantWrite r = r.master == 0 && (no_burst r && (no_beat r && r.zeros == 0))
+fits_code GrantRead r = r.master == 0 && (no_burst r && (no_beat r && r.zeros == 0))
+fits_code TakeCode r = r.master == 0 && (no_burst r && (no_beat r && r.zeros == 0))
+
 -- a record that codes 0 and 1 take: a request
 abbrev pub request_answer : Channel → Record → Result Act ScriptFault
 request_answer channel r = if no_beat r && r.zeros == 0 then Ok (Request channel (request_of r)) else Err BadRecord

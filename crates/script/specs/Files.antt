@@ -19,6 +19,10 @@ fits h n = nat_le h.acts 2048 && (nat_le h.image 8192 && n == 24 * h.acts + h.im
 abbrev pub allows : Header → ℕ → Bool
 allows h n = nat_le h.acts 2048 && (nat_le h.image 8192 && nat_le n (24 * h.acts + h.image))
 
+-- so many bytes are read behind a header: those that it tells and one more, and none where no script has it
+abbrev pub wants : Header → ℕ
+wants h = if nat_le h.acts 2048 && nat_le h.image 8192 then 24 * h.acts + h.image + 1 else 0
+
 -- a script may begin with these bytes: the header is not whole yet, or it allows what follows
 abbrev pub begins : List ℕ → Bool
 begins file = nat_lt (length file) 8 || allows (header_of file) (length (drop 8 file))

@@ -1,6 +1,11 @@
 -- What is read of an input that is to be a script.
-use Rattle.std.specs.Prelude.{◌≡◌, ℕ, ◌<◌, true, false, List, ◌++◌, length, take}
+use Rattle.std.specs.Prelude.{◌≡◌, ℕ, ◌<◌, true, false, List, [], ◌∷◌, ◌++◌, length, take, Option, MatchOption}
+use Rattle.std.specs.Io.KnownBytes.{Consumes, IsAtEnd}
 use Rattle.script.specs.Files.{begins, opens}
+
+-- what an input has left before and after its next byte is read, which is none at the end
+abbrev pub NextByte : Option (List ℕ) → Option (List ℕ) → Option ℕ → Type 0
+NextByte old new next = MatchOption next (Consumes old new [] × IsAtEnd new) (λ b. Consumes old new (b ∷ []))
 
 -- of an input this file is read
 pub record Reads (file input : List ℕ) : Type 0 where

@@ -1,6 +1,6 @@
 // Acts as records: what each code uses, and nothing else stands.
-ghost use Rattle.std.specs.Prelude.{◌≡◌, ◌↔◌, IsTrue};
-ghost use Rattle.script.specs.Acts.{act_given, read_act, record_answer, request_of, write_answer, written};
+ghost use Rattle.std.specs.Prelude.{◌≡◌};
+ghost use Rattle.script.specs.Acts.{act_given, fits_code, no_beat, no_burst, read_act, record_answer, request_of, write_answer, written};
 ghost use Rattle.script.specs.Laws.{ActsKept};
 
 use crate::code::Code;
@@ -95,11 +95,36 @@ impl TryFrom<Act> for Record {
 }
 
 impl Record {
-    // The record is the act's own: whatever the act does not use is zero, and a last mark is 0 or 1.
-    fn holds(self, act: Act) -> bool
-        ensures { IsTrue result ↔ (record_answer act ≡ Ok self) }
+    // Nothing of a request's burst stands, but for the master.
+    fn has_no_burst(self) -> bool
+        ensures { result ≡ no_burst self }
     {
-        Record::try_from(act) == Ok(self)
+        self.id == 0
+            && self.qos == 0
+            && self.kind == 0
+            && self.size == 0
+            && self.further == 0
+            && self.address == 0
+    }
+
+    // Nothing of a put's beat stands, but for the master.
+    fn has_no_beat(self) -> bool
+        ensures { result ≡ no_beat self }
+    {
+        self.last == 0 && self.strobe == 0 && self.word == 0
+    }
+
+    // What the code does not use is zero, and a put's last mark is 0 or 1.
+    fn fits(self, code: Code) -> bool
+        ensures { result ≡ fits_code code self }
+    {
+        match code {
+            Code::RequestWrite | Code::RequestRead => self.has_no_beat() && self.zeros == 0,
+            Code::Put => self.has_no_burst() && self.zeros == 0 && self.last <= 1,
+            Code::GrantWrite | Code::GrantRead | Code::Take => {
+                self.master == 0 && self.has_no_burst() && self.has_no_beat() && self.zeros == 0
+            }
+        }
     }
 }
 
@@ -111,9 +136,8 @@ pub fn read_act(bytes: &[u8]) -> Result<Act, ScriptFault>
 {
     let record = Record::read(bytes).ok_or(ScriptFault::Record)?;
     let code = Code::try_from(record.code)?;
-    let act = record.act(code);
-    if record.holds(act) {
-        Ok(act)
+    if record.fits(code) {
+        Ok(record.act(code))
     } else {
         Err(ScriptFault::Record)
     }

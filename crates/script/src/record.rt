@@ -7,7 +7,7 @@ pub const RECORD: usize = 24;
 
 // The count of a request's beats stands as the beats further than the first; three bytes that no act uses are one number.
 // Code and kind are numbers, since any byte may stand there.
-#[derive(Clone, Copy, Default, PartialEq)]
+#[derive(Clone, Copy, Default, PartialEq, Eq)]
 pub struct Record {
     pub code: u8,
     pub master: u8,

@@ -5,7 +5,7 @@ ghost use Rattle.report.specs.Lines.{line, written};
 ghost use Rattle.report.specs.Outcomes.{write_answer};
 ghost use Rattle.report.specs.Texts.{text};
 
-use super::{LINE_BYTES, Line};
+use super::Line;
 use crate::told::{ReportFault, Told};
 
 impl Line {
@@ -43,7 +43,7 @@ impl Line {
 pub fn write_line(out: &mut [u8], act: u32, told: Told) -> Result<usize, ReportFault>
     ensures answer { result ≡ write_answer (line act told) out.old }
     ensures after { out.new ≡ written (line act told) out.old }
-    ensures most { length (line act told) ≤ LINE_BYTES }
+    ensures most { length (line act told) ≤ 64 }
     ensures law { LinesTell }
 {
     Line::of(act, told).write_to(out)
@@ -52,7 +52,7 @@ pub fn write_line(out: &mut [u8], act: u32, told: Told) -> Result<usize, ReportF
 // How many bytes the line of an act's outcome has, its end counted.
 pub fn line_length(act: u32, told: Told) -> usize
     ensures value { result ≡ length (line act told) }
-    ensures most { result ≤ LINE_BYTES }
+    ensures most { result ≤ 64 }
 {
     Line::of(act, told).bytes.len()
 }

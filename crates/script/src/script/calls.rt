@@ -1,12 +1,15 @@
 // A file as a script, and the script's parts.
 ghost use Rattle.std.specs.Prelude.{◌≡◌, ℕ, ◌/◌, length, slice_get};
-ghost use Rattle.script.specs.Files.{Opened, Split, allows as header_allows, fits as header_fits, record_at};
+ghost use Rattle.script.specs.Files.{Opened, Split, fits as header_fits, wants as header_wants, record_at};
 ghost use Rattle.script.specs.Laws.{FilesParted};
 ghost use Rattle.std.specs.Option.{option_map};
 
 use super::Script;
 use crate::fault::ScriptFault;
 use crate::record::RECORD;
+
+// The bytes of a header.
+pub(crate) const HEADER: usize = 8;
 
 // The most acts of a script.
 pub const MOST_ACTS: usize = 2048;
@@ -15,7 +18,7 @@ pub const MOST_ACTS: usize = 2048;
 const MOST_IMAGE: usize = 8192;
 
 // The two numbers at the start of a file.
-#[derive(Clone, Copy)]
+#[derive(Clone, Copy, PartialEq, Eq)]
 pub struct Header {
     acts: usize,
     image: usize,
@@ -30,12 +33,16 @@ impl Header {
         acts <= MOST_ACTS && image <= MOST_IMAGE && bytes == RECORD * acts + image
     }
 
-    // The header may stand before so many bytes or more.
-    pub(crate) fn allows(self, bytes: usize) -> bool
-        ensures { result ≡ header_allows self bytes }
+    // How many bytes behind the header are read: those that it tells and one more, which shows that a file goes on;
+    // none where no script has the header.
+    pub(crate) fn wanted(self) -> u64
+        ensures { result ≡ header_wants self }
     {
         let Header { acts, image } = self;
-        acts <= MOST_ACTS && image <= MOST_IMAGE && bytes <= RECORD * acts + image
+        if acts > MOST_ACTS || image > MOST_IMAGE {
+            return 0;
+        }
+        (RECORD * acts + image + 1) as u64
     }
 }
 

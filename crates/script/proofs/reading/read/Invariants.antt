@@ -1,9 +1,8 @@
+use Rattle.std.proofs.Common.{◌≡◌, length}
 use Rattle.std.specs.Io.KnownBytes.{Consumes}
-use Rattle.std.specs.Io.Iter.{bytes_remaining}
-use Rattle.script.proofs.Input.{Starts}
 use Rattle.script.proofs.reading.read.Given as goal
 
--- what was read stood in front of what is left, and a script may begin with each start of it
-abbrev pub invariant-loop-byte : goal.invariant-loop-byte
-invariant-loop-byte g l =
-    Consumes (g.R.Read.remaining l.fn.input) (bytes_remaining g.R.Read.remaining l.byte-iterator) l.file.items × Starts l.file.items
+-- as many bytes as the turns so far stood in front of what is left
+abbrev pub invariant-loop : goal.invariant-loop
+invariant-loop g l =
+    Consumes (g.R.Read.remaining l.fn.input) (g.R.Read.remaining l.input) l.file.items × (length l.file.items ≡ l.counter)
